@@ -1,0 +1,3 @@
+-- Proofs that the sources' ghost members cite.
+pub mod Member
+pub mod Stored
