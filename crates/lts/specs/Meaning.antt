@@ -18,11 +18,10 @@ pub record Meaning : Type 0 where
   pub ends : ℕ → Bool
   pub steps : ℕ → List (ℕ × ℕ)
 
--- What every source keeps, `most` being the largest number of states of its kind.
+-- What every source keeps: `most` is the largest number of states of its kind.
 pub record Lawful (most : ℕ) (m : Meaning) : Type 0 where
   pub some : 1 ≤ m .count
   pub few : m .count ≤ most
-  pub bounded : most ≤ 128
   pub no-ends : (s : ℕ) → m .count ≤ s → m .ends s ≡ false
   pub no-steps : (s : ℕ) → m .count ≤ s → m .steps s ≡ []
   pub short : (s : ℕ) → length (m .steps s) ≤ 4096

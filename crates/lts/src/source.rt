@@ -1,5 +1,5 @@
 // What can be asked of a procedure, whatever form it is kept in.
-ghost use Prim.Native.Nat.{ℕ};
+ghost use Prim.Native.Nat.{ℕ, _≤_};
 ghost use lib.ListN.{length};
 ghost use mathlib.Core.Path.{_≡_};
 ghost use Rattle.std.specs.Finite.{nth};
@@ -14,6 +14,8 @@ pub struct Most<const N: usize> {
 
 pub trait Source<const N: usize> {
     const MOST: Most<N>;
+
+    ghost bounded: { N ≤ 128 };
 
     ghost meaning: { Self → Meaning };
 

@@ -1,7 +1,7 @@
 // A stored procedure read as a source.
 ghost use Prim.Native.Nat.{ℕ, _+_, _≤_, _<_};
 ghost use denote.Ref.{now};
-ghost use lib.ListN.{getD};
+ghost use lib.Dec.{lit≤};
 ghost use Rattle.lts.specs.Layout.{from, step-at, stored};
 ghost use Rattle.lts.specs.Laws.Stored.{stored-lawful};
 use crate::procedure::Procedure;
@@ -20,6 +20,8 @@ pub struct Stored<'a> {
 
 pub impl<'a> Source<128> for Stored<'a> as StoredSource {
     const MOST: Most<128> = Most { states: 128 };
+
+    ghost bounded = { lit≤ tt };
 
     ghost meaning = { λ x. stored (now (x .of)) };
 

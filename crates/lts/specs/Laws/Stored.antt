@@ -84,4 +84,4 @@ module _ (p : Procedure) (some : 1 ≤ p .states) (few : p .states ≤ 128) (ris
 
   pub stored-lawful : Lawful 128 (stored p)
   stored-lawful =
-      record { some = some; few = few; bounded = omega arith; no-ends = λ s l. rw (le-ltb s (p .states) l); no-steps = λ s l. rw (le-ltb s (p .states) l); short = brief; acts = listed-acts; aims = listed-aims }
+      record { some = some; few = few; no-ends = λ s l. rw (le-ltb s (p .states) l); no-steps = λ s l. rw (le-ltb s (p .states) l); short = brief; acts = listed-acts; aims = listed-aims }
