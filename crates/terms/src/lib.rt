@@ -1,0 +1,4 @@
+// Process terms: how a text is read, and the graph that the rules of the calculus give it.
+pub mod fault;
+pub mod node;
+pub mod term;
