@@ -6,3 +6,6 @@ pub mod Graph
 pub mod Nodes
 pub mod Faults
 pub mod Terms
+pub mod Assembly
+pub mod Reader
+pub mod Reading

@@ -35,17 +35,24 @@ at-end before opened at = Some (Early at)
 at-end behind zero at = None
 at-end behind (suc opened) at = Some (Early at)
 
+-- one answer for each move
+abbrev pub by-move : Move → (acting opening joining closing misfitting : Option TermFault) → Option TermFault
+by-move acts a o j c m = a
+by-move opens a o j c m = o
+by-move joins a o j c m = j
+by-move closes a o j c m = c
+by-move misfits a o j c m = m
+
 -- The first refusal of what follows, with so many brackets open and actions read, at an offset.
 abbrev pub scan : Stand → ℕ → ℕ → ℕ → List ℕ → Option TermFault
 scan stand opened actions at [] = at-end stand opened at
 scan stand opened actions at (c ∷ cs) =
-    elim (move stand opened c) [
-      | acts ↦ cond (leb 63 actions) (Some (Actions at)) (scan behind opened (actions + 1) (at + 1) cs)
-      | opens ↦ cond (leb 32 opened) (Some (Brackets at)) (scan before (opened + 1) actions (at + 1) cs)
-      | joins ↦ scan before opened actions (at + 1) cs
-      | closes ↦ scan behind (opened - 1) actions (at + 1) cs
-      | misfits ↦ Some (Misplaced at)
-    ]
+    by-move (move stand opened c)
+    (cond (leb 63 actions) (Some (Actions at)) (scan behind opened (actions + 1) (at + 1) cs))
+    (cond (leb 32 opened) (Some (Brackets at)) (scan before (opened + 1) actions (at + 1) cs))
+    (scan before opened actions (at + 1) cs)
+    (scan behind (opened - 1) actions (at + 1) cs)
+    (Some (Misplaced at))
 
 abbrev pub first-refusal : List ℕ → Option TermFault
 first-refusal text = cond (ltb 512 (length text)) (Some Long) (scan before 0 0 0 text)

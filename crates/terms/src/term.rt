@@ -8,6 +8,8 @@ ghost use Rattle.terms.specs.Syntax.{size};
 ghost use Rattle.terms.specs.declared.node.Node.the-variants.{Action};
 use crate::node::Node;
 
+pub mod reader;
+
 pub struct Term {
     nodes: [Node; 125],
     used: u8,

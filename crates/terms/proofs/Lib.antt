@@ -1,0 +1,10 @@
+pub mod Letters
+pub mod Feeding
+pub mod Complete
+pub mod Spelled
+pub mod Scanning
+pub mod Pushing
+pub mod Growing
+pub mod Moves
+pub mod Finishing
+pub mod Progress
