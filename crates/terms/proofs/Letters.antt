@@ -40,3 +40,13 @@ pub letter-bound : {c a : ℕ} → Letter c a → a ≤ 61
 letter-bound (small l h) = omega arith
 letter-bound (capital l h) = omega arith
 letter-bound (digit l h) = omega arith
+
+-- the character of each action
+pub small-letter : (a : ℕ) → a ≤ 25 → Letter (97 + a) a
+small-letter a h = let e : 97 + a - 97 ≡ a = omega arith in subst (Letter (97 + a)) e (small (omega arith) (omega arith))
+
+pub capital-letter : (a : ℕ) → 26 ≤ a → a ≤ 51 → Letter (65 + (a - 26)) a
+capital-letter a l h = let e : 65 + (a - 26) - 65 + 26 ≡ a = omega arith in subst (Letter (65 + (a - 26))) e (capital (omega arith) (omega arith))
+
+pub digit-letter : (a : ℕ) → 52 ≤ a → a ≤ 61 → Letter (48 + (a - 52)) a
+digit-letter a l h = let e : 48 + (a - 52) - 48 + 52 ≡ a = omega arith in subst (Letter (48 + (a - 52))) e (digit (omega arith) (omega arith))
