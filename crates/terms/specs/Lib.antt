@@ -9,3 +9,4 @@ pub mod Terms
 pub mod Assembly
 pub mod Reader
 pub mod Reading
+pub mod Laws
