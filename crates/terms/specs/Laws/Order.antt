@@ -15,6 +15,10 @@ use Rattle.terms.specs.Syntax.{Tree, leaf, choice, sequence, size, Rest, done,
 use Rattle.terms.specs.Graph.{followed, rests, contents, firsts, Rises}
 use Rattle.terms.specs.Nodes.{numbered}
 
+-- two constructors are never equal: then any two numbers would be
+pub never : {X : Type 0} → _≡_ {A = ℕ} 0 1 → X
+never e = let b : ⊥ = omega arith in absurd b
+
 -- what the test `numbered` tells
 abbrev pub Numbered : ℕ → Tree → Type 0
 Numbered i (leaf a j) = (a ≤ 63) × (j ≡ suc i)
@@ -88,7 +92,7 @@ followed-within i u v x (left y) n w e =
 
 -- the same of what remains after an action
 pub rests-within : (i : ℕ) (t x : Tree) → Numbered i t → In (left x) (rests t) → Within i (i + size t) (firsts x)
-rests-within i (leaf a j) x n (inl e) = let z : _≡_ {A = ℕ} 0 1 = cc in let b : ⊥ = omega arith in absurd b
+rests-within i (leaf a j) x n (inl e) = never (cc)
 rests-within i (leaf a j) x n (inr h) = absurd h
 rests-within i (choice u v) x n h =
     ⊎-elim
