@@ -35,12 +35,12 @@ by-rules t order =
       count = refl;
       ends = λ s. ending (nth (contents t) s);
       derivable = λ s a i h.
-        let l = leading (nth (contents t) s) a i h in
-        let m = step-of-first (l .0) a i (l .2) in
-        (l .0, m .0, l .1, reached t n s (l .0) a i (m .0) (l .1) (m .1), derived (l .0) a i (m .0) (m .1));
+          let l = leading (nth (contents t) s) a i h in
+          let m = step-of-first (l .0) a i (l .2) in
+          (l .0, m .0, l .1, reached t n s (l .0) a i (m .0) (l .1) (m .1), derived (l .0) a i (m .0) (m .1));
       listed = λ s a x r h d.
-        let m = stepped x a r d in
-        let f = first-of-step x a (m .0) (m .1) (m .2) in
-        (m .0, m .1, rw h f, reached t n s x a (m .0) (m .1) h (m .2), m .3);
-      ordered = λ s. within-rises 0 (size t) (leads (nth (contents t) s)) (leads-within t n s)
+          let m = stepped x a r d in
+          let f = first-of-step x a (m .0) (m .1) (m .2) in
+          (m .0, m .1, rw h f, reached t n s x a (m .0) (m .1) h (m .2), m .3);
+      ordered = λ s. within-rises 0 (size t) (leads (nth (contents t) s)) (leads-within t n s);
     }

@@ -11,3 +11,5 @@ pub mod Progress
 pub mod Joined
 pub mod Steps
 pub mod Derived
+pub mod Table
+pub mod Heads

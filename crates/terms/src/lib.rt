@@ -2,3 +2,6 @@
 pub mod fault;
 pub mod node;
 pub mod term;
+
+pub use term::Term;
+pub use term::TermSource;

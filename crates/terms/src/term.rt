@@ -6,7 +6,12 @@ ghost use mathlib.Core.Path.{_≡_};
 ghost use Rattle.terms.specs.Nodes.{tree, lower, numbered};
 ghost use Rattle.terms.specs.Syntax.{size};
 ghost use Rattle.terms.specs.declared.node.Node.the-variants.{Action};
+
+mod source;
+mod walk;
+
 use crate::node::Node;
+pub use source::TermSource;
 
 pub mod reader;
 

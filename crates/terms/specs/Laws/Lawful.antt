@@ -14,6 +14,8 @@ use Rattle.lts.specs.Laws.Member.{nth-in}
 use Rattle.terms.specs.Syntax.{Tree, leaf, choice, sequence, size, Rest, done, left}
 use Rattle.terms.specs.Graph.{followed, rests, contents, firsts, ended, leads, graph}
 use Rattle.terms.specs.Nodes.{numbered}
+use Rattle.terms.specs.Terms.{tree-of}
+use Rattle.terms.specs.declared.term.Term.{Term}
 use Rattle.terms.specs.Laws.Order.{Numbered, is-numbered, Within, within-more, within-length, within-each, firsts-within, rests-within}
 
 -- something remains after each action written, be it nothing
@@ -53,5 +55,8 @@ graph-lawful t small order =
       no-steps = λ s h. ap leads (nothing-past t s h);
       short = λ s. omega (arith, within-length 0 (size t) (graph t .steps s) (within s));
       acts = λ s a i h. within-each 0 (size t) a i (graph t .steps s) (within s) h .0;
-      aims = λ s a i h. omega (arith, within-each 0 (size t) a i (graph t .steps s) (within s) h .1)
+      aims = λ s a i h. omega (arith, within-each 0 (size t) a i (graph t .steps s) (within s) h .1);
     }
+
+pub term-lawful : (x : Term) → Lawful 64 (graph (tree-of x))
+term-lawful x = graph-lawful (tree-of x) (omega (arith, x .sized, x .few)) (x .order)
