@@ -1,21 +1,18 @@
 -- The graph of a term is the one that the rules derive.
-use Prim.Native.Nat.{ℕ, zero, suc, _+_}
-use native.Mathlib.Omega.{arith}
+use Prim.Native.Nat.{ℕ}
 use mathlib.Core.Bool.{true}
-use mathlib.Core.List.{List}
-use mathlib.Core.Path.{_≡_, refl, sym, ap, _∙_}
+use mathlib.Core.Path.{_≡_, refl}
 use Rattle.std.specs.Finite.{nth}
 use Rattle.std.specs.Orderings.{Decides}
 use Rattle.std.specs.declared.option.Option.{Option}
 use Rattle.std.specs.declared.option.Option.the-variants.{None, Some}
 use Rattle.lts.specs.Meaning.{In}
 use Rattle.terms.specs.Syntax.{Tree, size, Rest, done, left}
-use Rattle.terms.specs.Rules.{Process, Derives, plain, plain-rest}
 use Rattle.terms.specs.Graph.{contents, firsts, ended, leads, graph, ByRules}
 use Rattle.terms.specs.Nodes.{numbered}
 use Rattle.terms.specs.Laws.Order.{is-numbered, within-rises, never}
 use Rattle.terms.specs.Laws.Lawful.{leads-within}
-use Rattle.terms.proofs.Steps.{Steps, step-of-first, first-of-step, derived, stepped, reached}
+use Rattle.terms.proofs.Steps.{step-of-first, first-of-step, derived, stepped, reached}
 
 -- only a state where something remains has steps
 leading : (o : Option (Rest Tree)) (a i : ℕ) → In (a, i) (leads o) → (x : Tree) × (o ≡ Some (left x)) × In (a, i) (firsts x)

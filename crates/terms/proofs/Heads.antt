@@ -1,7 +1,7 @@
 -- What a walk answers of a term, from what it answers of the term's parts.
 use Prim.Native.Nat.{ℕ, zero, suc, _+_, _-_, _<_, _≤_}
 use native.Mathlib.Omega.{arith}
-use mathlib.Core.List.{List, [], _∷_, _++_, map}
+use mathlib.Core.List.{List, _++_, map}
 use mathlib.Core.Path.{_≡_, refl, sym, ap, _∙_}
 use lib.ListN.{length, length-append, length-map}
 use Rattle.std.specs.Finite.{nth}
@@ -21,7 +21,7 @@ use Rattle.terms.specs.Walks.{node-tree, Says, Picked, Begins, Behind, Heads}
 use Rattle.terms.specs.declared.node.Node.the-variants.{Choice, Sequence}
 use Rattle.terms.specs.declared.term.Term.{Term}
 use Rattle.terms.specs.declared.term.walk.Head.{Head}
-use Rattle.terms.specs.declared.term.walk.Head.the-variants.{Absent, Done, At}
+use Rattle.terms.specs.declared.term.walk.Head.the-variants.{Done, At}
 use Rattle.terms.proofs.Joined.{nth-first, nth-second}
 
 -- The actions that can come first of a choice: those of its first part, then those of its second.

@@ -1,17 +1,16 @@
 -- The steps of a term with the places of their actions, and what remains at each place.
 use Prim.Native.Nat.{ℕ, zero, suc, _+_}
 use native.Mathlib.Omega.{arith}
-use mathlib.Core.List.{List, [], _∷_, _++_, map}
+use mathlib.Core.List.{List, _++_, map}
 use mathlib.Core.Logic.{_⊎_, inl, inr, ⊎-elim}
 use mathlib.Core.Path.{_≡_, refl, sym, ap, _∙_}
 use lib.ListN.{length, length-map}
 use Rattle.std.specs.Finite.{nth}
-use Rattle.std.specs.declared.option.Option.{Option}
-use Rattle.std.specs.declared.option.Option.the-variants.{None, Some}
+use Rattle.std.specs.declared.option.Option.the-variants.{Some}
 use Rattle.lts.specs.Meaning.{In}
 use Rattle.lts.specs.Laws.Member.{in-left, in-right, in-either, nth-map}
 use Rattle.terms.specs.Syntax.{Tree, leaf, choice, sequence, size, Rest, done, left}
-use Rattle.terms.specs.Rules.{Process, act, _⊙_, Derives, act-done, choice-left, choice-right, sequence-done, sequence-left, plain, plain-rest}
+use Rattle.terms.specs.Rules.{Process, _⊙_, Derives, act-done, choice-left, choice-right, sequence-done, sequence-left, plain, plain-rest}
 use Rattle.terms.specs.Graph.{followed, rests, contents, firsts}
 use Rattle.terms.specs.Laws.Order.{Numbered, never}
 use Rattle.terms.specs.Laws.Lawful.{length-rests}

@@ -3,14 +3,14 @@ use Prim.Native.Nat.{ℕ, zero, suc, _+_, _<_}
 use native.Mathlib.Omega.{arith}
 use mathlib.Core.Bool.{true}
 use mathlib.Core.List.{List, [], _∷_, _++_}
-use mathlib.Core.Path.{_≡_, refl, sym, ap, _∙_}
+use mathlib.Core.Path.{_≡_, refl, sym, _∙_}
 use lib.Dec.{ltb}
 use lib.ListN.{length, getD, take}
 use Rattle.std.proofs.shelf.Lists.{getD-append-left, getD-past, getD-push, getD-take, length-push}
 use Rattle.std.proofs.shelf.Tests.{ltb-true, and-parts}
-use Rattle.terms.specs.Syntax.{Tree, leaf, choice, sequence}
+use Rattle.terms.specs.Syntax.{Tree, leaf}
 use Rattle.terms.specs.Nodes.{make, grow, tree, lower}
-use Rattle.terms.specs.Walks.{node-tree, Says}
+use Rattle.terms.specs.Walks.{Says}
 use Rattle.terms.specs.declared.node.Node.{Node}
 use Rattle.terms.specs.declared.node.Node.the-variants.{Action, Choice, Sequence}
 use Rattle.terms.specs.declared.term.Term.{Term}

@@ -1,15 +1,15 @@
 -- The graph of a term keeps the bounds that every source promises.
-use Prim.Native.Nat.{ℕ, zero, suc, _+_, _<_, _≤_}
+use Prim.Native.Nat.{ℕ, zero, suc, _+_, _≤_}
 use native.Mathlib.Omega.{arith}
 use mathlib.Core.Bool.{true}
-use mathlib.Core.List.{List, [], _∷_, _++_, map}
-use mathlib.Core.Path.{_≡_, refl, sym, ap, _∙_}
+use mathlib.Core.List.{map}
+use mathlib.Core.Path.{_≡_, refl, ap}
 use lib.ListN.{length, length-append, length-map}
 use Rattle.std.specs.Finite.{nth}
 use Rattle.std.specs.declared.option.Option.{Option}
 use Rattle.std.specs.declared.option.Option.the-variants.{None, Some}
 use Rattle.std.proofs.shelf.Maps.{nth-past}
-use Rattle.lts.specs.Meaning.{Lawful, In}
+use Rattle.lts.specs.Meaning.{Lawful}
 use Rattle.lts.specs.Laws.Member.{nth-in}
 use Rattle.terms.specs.Syntax.{Tree, leaf, choice, sequence, size, Rest, done, left}
 use Rattle.terms.specs.Graph.{followed, rests, contents, firsts, ended, leads, graph}

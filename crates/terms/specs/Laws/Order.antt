@@ -4,15 +4,15 @@ use native.Mathlib.Nat.{add-assoc}
 use native.Mathlib.Omega.{arith}
 use mathlib.Core.Bool.{true}
 use mathlib.Core.List.{List, [], _∷_, _++_, map}
-use mathlib.Core.Logic.{_⊎_, inl, inr, ⊎-elim}
-use mathlib.Core.Path.{_≡_, refl, sym, ap}
+use mathlib.Core.Logic.{inl, inr, ⊎-elim}
+use mathlib.Core.Path.{_≡_, refl, ap}
 use lib.Dec.{leb, eqb}
 use lib.ListN.{length}
 use Rattle.std.proofs.shelf.Tests.{leb-true, eqb-true, and-parts}
 use Rattle.lts.specs.Meaning.{In}
 use Rattle.lts.specs.Laws.Member.{in-either, from-map}
 use Rattle.terms.specs.Syntax.{Tree, leaf, choice, sequence, size, Rest, done, left}
-use Rattle.terms.specs.Graph.{followed, rests, contents, firsts, Rises}
+use Rattle.terms.specs.Graph.{followed, rests, firsts, Rises}
 use Rattle.terms.specs.Nodes.{numbered}
 
 -- two constructors are never equal: then any two numbers would be

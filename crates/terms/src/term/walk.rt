@@ -11,7 +11,7 @@ use crate::term::Term;
 
 // What a state holds, as far as its first steps go.
 #[derive(Clone, Copy)]
-pub enum Head {
+pub(super) enum Head {
     // There is no such state.
     Absent,
     // Nothing remains.
@@ -21,6 +21,7 @@ pub enum Head {
 }
 
 impl Term {
+    // The node at a place in use.
     fn at(&self, node: u8) -> Node
         requires { ⌜ node < now self .used ⌝ }
         ensures { λ r. ⌜ Says (now (self .entry)) node r ⌝ }
@@ -29,7 +30,7 @@ impl Term {
     }
 
     // The k-th action that can come first, with its place; or how far k is past the last.
-    pub fn first(&self, node: u8, k: usize) -> Result<(u8, u8), usize>
+    pub(super) fn first(&self, node: u8, k: usize) -> Result<(u8, u8), usize>
         requires { ⌜ node < now self .used ⌝ }
         ensures { λ r. ⌜ Picked (firsts (node-tree (now (self .entry)) node)) k r ⌝ }
     {
@@ -45,7 +46,7 @@ impl Term {
     }
 
     // How many actions can come first.
-    pub fn width(&self, node: u8) -> usize
+    pub(super) fn width(&self, node: u8) -> usize
         requires used { ⌜ node < now self .used ⌝ }
         requires few { ⌜ length (firsts (node-tree (now self) node)) ≤ 63 ⌝ }
         ensures { λ r. ⌜ r ≡ length (firsts (node-tree (now (self .entry)) node)) ⌝ }
@@ -78,7 +79,7 @@ impl Term {
     }
 
     // State 0 holds the whole term, state s what remains after the s-th action written.
-    pub fn state(&self, s: usize) -> Head
+    pub(super) fn state(&self, s: usize) -> Head
         ensures { λ r. ⌜ Heads (now (self .entry)) (nth (contents (tree-of (now (self .entry)))) s) r ⌝ }
     {
         if s == 0 {
