@@ -7,13 +7,12 @@ ghost use Rattle.terms.specs.Nodes.{tree, lower, numbered};
 ghost use Rattle.terms.specs.Syntax.{size};
 ghost use Rattle.terms.specs.declared.node.Node.the-variants.{Action};
 
+pub mod reader;
 mod source;
 mod walk;
 
 use crate::node::Node;
 pub use source::TermSource;
-
-pub mod reader;
 
 pub struct Term {
     nodes: [Node; 125],
