@@ -8,3 +8,8 @@ pub mod Growing
 pub mod Moves
 pub mod Finishing
 pub mod Progress
+pub mod Joined
+pub mod Steps
+pub mod Derived
+pub mod Table
+pub mod Heads

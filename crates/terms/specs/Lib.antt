@@ -9,3 +9,5 @@ pub mod Terms
 pub mod Assembly
 pub mod Reader
 pub mod Reading
+pub mod Laws
+pub mod Walks

@@ -3,3 +3,6 @@ pub mod fault;
 pub mod letter;
 pub mod node;
 pub mod term;
+
+pub use term::Term;
+pub use term::TermSource;

@@ -6,9 +6,13 @@ ghost use mathlib.Core.Path.{_≡_};
 ghost use Rattle.terms.specs.Nodes.{tree, lower, numbered};
 ghost use Rattle.terms.specs.Syntax.{size};
 ghost use Rattle.terms.specs.declared.node.Node.the-variants.{Action};
-use crate::node::Node;
 
 pub mod reader;
+mod source;
+mod walk;
+
+use crate::node::Node;
+pub use source::TermSource;
 
 pub struct Term {
     nodes: [Node; 125],
