@@ -21,6 +21,7 @@ use Rattle.terms.specs.declared.term.reader.Reader.{Reader}
 use Rattle.terms.specs.Faults.{TooLarge}
 use Rattle.terms.specs.Syntax.{Tree, leaf, choice, sequence, size}
 use Rattle.terms.specs.Grammar.{Level, Spells, sum, action, bracket, one-operand, more-operands, one-product, more-products}
+use Rattle.terms.specs.Graph.{ByRules, graph}
 use Rattle.terms.specs.Nodes.{numbered}
 use Rattle.terms.specs.Scan.{scan, first-refusal, before}
 use Rattle.terms.specs.Assembly.{Partial, start, past, plus, feed, feeds, then-feeds}
@@ -28,6 +29,7 @@ use Rattle.terms.specs.Reader.{partial, scanned, Sound, Counted, Finished}
 use Rattle.terms.specs.Reading.{refusal-of}
 use Rattle.terms.specs.Terms.{tree-of}
 use Rattle.terms.proofs.Complete.{text-put}
+use Rattle.terms.proofs.Derived.{by-rules}
 use Rattle.terms.proofs.Finishing.{depth-is}
 use Rattle.terms.proofs.Letters.{letter-bound}
 use Rattle.terms.proofs.Scanning.{Within, Oversized, feed-scan, spelled-scan}
@@ -123,14 +125,14 @@ refused-large text f u e d = ⊎-elim large none (spelled-scan text u d)
 
 -- what reading a text promises of its answer
 abbrev pub Promised : List ℕ → Result Term TermFault → Type 0
-Promised text r = record { refuses : refusal-of r ≡ first-refusal text; spelled : made r (λ t. Spells sum 0 text (tree-of t)); reads : (u : Tree) → Spells sum 0 text u → Cases r (λ t. tree-of t ≡ u) TooLarge }
+Promised text r = record { refuses : refusal-of r ≡ first-refusal text; spelled : made r (λ t. Spells sum 0 text (tree-of t)); reads : (u : Tree) → Spells sum 0 text u → Cases r (λ t. tree-of t ≡ u) TooLarge; derived : made r (λ t. ByRules (tree-of t) (graph (tree-of t))) }
 
 short-refusal : (text : List ℕ) (o : Option TermFault) → length text ≤ 512 → o ≡ scanned start 0 text → o ≡ first-refusal text
 short-refusal text o l e = rw (le-ltb 512 (length text) l) e
 
 pub refused-promised : (text : List ℕ) (f : TermFault) → length text ≤ 512 → scanned start 0 text ≡ Some f → Promised text (Err f)
-refused-promised text f l e = record { refuses = short-refusal text (Some f) l (sym e); spelled = tt; reads = λ u d. refused-large text f u e d }
+refused-promised text f l e = record { refuses = short-refusal text (Some f) l (sym e); spelled = tt; reads = λ u d. refused-large text f u e d; derived = tt }
 
 pub finished-promised : (text : List ℕ) (r : Reader) (t : Result Term TermFault) → length text ≤ 512 → Progress text (length text) r → Finished r (length text) t → Promised text t
-finished-promised text r (Ok t) l p h = record { refuses = short-refusal text None l (progress-end text r p (Ok t) h); spelled = progress-spelled text r p t h; reads = λ u d. progress-unique text r p t u h d }
+finished-promised text r (Ok t) l p h = record { refuses = short-refusal text None l (progress-end text r p (Ok t) h); spelled = progress-spelled text r p t h; reads = λ u d. progress-unique text r p t u h d; derived = by-rules (tree-of t) (t .order) }
 finished-promised text r (Err f) l p h = refused-promised text f l (sym (progress-end text r p (Err f) h))

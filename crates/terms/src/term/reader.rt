@@ -9,6 +9,7 @@ ghost use Rattle.std.specs.Results.{Cases};
 ghost use Rattle.std.specs.Vec.{made};
 ghost use Rattle.terms.specs.Assembly.{start, plus, times};
 ghost use Rattle.terms.specs.Faults.{TooLarge};
+ghost use Rattle.terms.specs.Graph.{ByRules, graph};
 ghost use Rattle.terms.specs.Grammar.{Spells, sum};
 ghost use Rattle.terms.specs.Nodes.{grow, make, lower};
 ghost use Rattle.terms.specs.Reader.{partial, known, Below, one, at, Table, Sound, Joined, Acted, Opened, Chosen, Closed, Took, Counted, Finished};
@@ -221,6 +222,7 @@ impl Term {
         ensures refuses { λ r. ⌜ refusal-of r ≡ first-refusal (now (text .entry)) ⌝ }
         ensures spelled { λ r. ⌜ made r (λ t. Spells sum 0 (now (text .entry)) (tree-of t)) ⌝ }
         ensures reads { λ r. ⌜ ((u : Tree) → Spells sum 0 (now (text .entry)) u → Cases r (λ t. tree-of t ≡ u) TooLarge) ⌝ }
+        ensures derived { λ r. ⌜ made r (λ t. ByRules (tree-of t) (graph (tree-of t))) ⌝ }
     {
         if text.len() > 512 {
             return Err(TermFault::Long);
