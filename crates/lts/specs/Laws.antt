@@ -1,3 +1,4 @@
 -- Proofs that the sources' ghost members cite.
 pub mod Member
 pub mod Stored
+pub mod Mapped

@@ -1,3 +1,5 @@
 pub mod Meaning
 pub mod Layout
+pub mod Fault
+pub mod Map
 pub mod Laws

@@ -1,5 +1,6 @@
 -- What stands in a list.
 use Prim.Native.Nat.{ℕ, zero, suc, _+_, _<_, _≤_}
+use native.Mathlib.Nat.{zero-add, suc-add}
 use native.Mathlib.Omega.{arith}
 use native.Mathlib.Numerals.{add-one}
 use mathlib.Core.List.{List, [], _∷_, _++_, map}
@@ -10,7 +11,7 @@ use Rattle.std.specs.Finite.{nth}
 use Rattle.std.specs.Iters.{counting}
 use Rattle.std.specs.declared.option.Option.{Option}
 use Rattle.std.specs.declared.option.Option.the-variants.{None, Some}
-use Rattle.lts.specs.Meaning.{In}
+use Rattle.lts.specs.Meaning.{Meaning, Lawful, In}
 
 pub in-left : {X : Type 0} (x : X) (xs ys : List X) → In x xs → In x (xs ++ ys)
 in-left x [] ys h = absurd h
@@ -61,3 +62,20 @@ pub nth-map-none : {X Y : Type 0} (f : X → Y) (xs : List X) (k : ℕ) → nth 
 nth-map-none f [] k e = refl
 nth-map-none f (y ∷ xs) zero e = let z : _≡_ {A = ℕ} 0 1 = cc in let b : ⊥ = omega arith in absurd b
 nth-map-none f (y ∷ xs) (suc k) e = nth-map-none f xs k e
+
+pub nth-left : {X : Type 0} (xs ys : List X) (k : ℕ) → k < length xs → nth (xs ++ ys) k ≡ nth xs k
+nth-left [] ys k h = let b : ⊥ = omega arith in absurd b
+nth-left (x ∷ xs) ys zero h = refl
+nth-left (x ∷ xs) ys (suc k) h = nth-left xs ys k (omega arith)
+
+pub nth-right : {X : Type 0} (xs ys : List X) (k : ℕ) → nth (xs ++ ys) (length xs + k) ≡ nth ys k
+nth-right [] ys k = rw zero-add
+nth-right (x ∷ xs) ys k = rw suc-add (nth-right xs ys k)
+
+-- the step that a source lists at a place keeps the source's bounds
+module _ {most : ℕ} (m : Meaning) (law : Lawful most m) (s k a t : ℕ) (at : nth (m .steps s) k ≡ Some (a, t)) where
+  pub listed-action : a ≤ 63
+  listed-action = law .acts s a t (nth-in (a, t) (m .steps s) k at)
+
+  pub listed-target : t < m .count
+  listed-target = law .aims s a t (nth-in (a, t) (m .steps s) k at)
