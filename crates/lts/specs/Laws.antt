@@ -2,3 +2,4 @@
 pub mod Member
 pub mod Stored
 pub mod Mapped
+pub mod Joined

@@ -20,3 +20,12 @@ listed p s = map (step-at p) (counting (from p s) (from p (s + 1) - from p s))
 
 abbrev pub stored : Procedure → Meaning
 stored p = record { count = p .states; ends = λ s. ltb s (p .states) && getD (p .ends) s false; steps = λ s. cond (ltb s (p .states)) (listed p s) [] }
+
+-- what makes a stored procedure readable as a source
+pub record Sound (p : Procedure) : Type 0 where
+  pub some : 1 ≤ p .states
+  pub few : p .states ≤ 128
+  pub rises : (s : ℕ) → s < p .states → from p s ≤ from p (s + 1)
+  pub room : from p (p .states) ≤ 512
+  pub acts : (k : ℕ) → k < from p (p .states) → step-at p k .0 ≤ 63
+  pub aims : (k : ℕ) → k < from p (p .states) → step-at p k .1 < p .states
