@@ -1,4 +1,5 @@
 -- Proofs that the sources' ghost members cite.
+pub mod Same
 pub mod Member
 pub mod Stored
 pub mod Mapped

@@ -63,6 +63,22 @@ nth-map-none f [] k e = refl
 nth-map-none f (y ∷ xs) zero e = let z : _≡_ {A = ℕ} 0 1 = cc in let b : ⊥ = omega arith in absurd b
 nth-map-none f (y ∷ xs) (suc k) e = nth-map-none f xs k e
 
+-- what is listed at a place, by its number
+pub nth-inside : {X : Type 0} (x : X) (xs : List X) (k : ℕ) → nth xs k ≡ Some x → k < length xs
+nth-inside x [] k e = let z : _≡_ {A = ℕ} 0 1 = cc in omega arith
+nth-inside x (y ∷ xs) zero e = omega arith
+nth-inside x (y ∷ xs) (suc k) e = let h = nth-inside x xs k e in omega arith
+
+pub nth-missing : {X : Type 0} (xs : List X) (k : ℕ) → nth xs k ≡ None → length xs ≤ k
+nth-missing [] k e = omega arith
+nth-missing (y ∷ xs) zero e = let z : _≡_ {A = ℕ} 0 1 = cc in omega arith
+nth-missing (y ∷ xs) (suc k) e = let h = nth-missing xs k e in omega arith
+
+pub nth-is : {X : Type 0} (x d : X) (xs : List X) (k : ℕ) → nth xs k ≡ Some x → getD xs k d ≡ x
+nth-is x d [] k e = let z : _≡_ {A = ℕ} 0 1 = cc in let b : ⊥ = omega arith in absurd b
+nth-is x d (y ∷ xs) zero e = cc
+nth-is x d (y ∷ xs) (suc k) e = nth-is x d xs k e
+
 pub nth-left : {X : Type 0} (xs ys : List X) (k : ℕ) → k < length xs → nth (xs ++ ys) k ≡ nth xs k
 nth-left [] ys k h = let b : ⊥ = omega arith in absurd b
 nth-left (x ∷ xs) ys zero h = refl
