@@ -24,7 +24,12 @@ fn bare<const N: usize, S: Source<N>>(source: &S) -> Procedure
     for s in 0..source.states() {
         ends[s] = source.is_end(s);
     }
-    Procedure { states: source.states() as u8, ends, first: [0; 129], steps: [(0, 0); 512] }
+    Procedure {
+        states: source.states() as u8,
+        ends,
+        first: [0; 129],
+        steps: [(0, 0); 512],
+    }
 }
 
 // Puts the steps of state s behind those of the states below it.

@@ -21,7 +21,13 @@ impl<'a, const M: usize, const N: usize, L: Source<M>, R: Source<N>> Pair<'a, L,
     }
 }
 
-pub impl<'a, const M: usize, const N: usize, L: Source<M>, R: Source<N>> System for Pair<'a, L, R, M, N> as PairSystem {
+pub impl<'a, const M: usize, const N: usize, L: Source<M>, R: Source<N>> System for Pair<
+    'a,
+    L,
+    R,
+    M,
+    N,
+> as PairSystem {
     ghost meaning = { λ x. joined (L·Source .meaning (now (x .left))) (R·Source .meaning (now (x .right))) };
 
     ghost lawful = { λ x. joined-lawful (L·Source .meaning (now (x .left))) (R·Source .meaning (now (x .right))) (L·Source .lawful (now (x .left))) (R·Source .lawful (now (x .right))) (L·Source .bounded) (R·Source .bounded) };
@@ -32,12 +38,20 @@ pub impl<'a, const M: usize, const N: usize, L: Source<M>, R: Source<N>> System 
 
     fn is_end(&self, s: usize) -> bool {
         let n = self.left.states();
-        if s < n { self.left.is_end(s) } else { self.right.is_end(s - n) }
+        if s < n {
+            self.left.is_end(s)
+        } else {
+            self.right.is_end(s - n)
+        }
     }
 
     fn step_count(&self, s: usize) -> usize {
         let n = self.left.states();
-        if s < n { self.left.step_count(s) } else { self.right.step_count(s - n) }
+        if s < n {
+            self.left.step_count(s)
+        } else {
+            self.right.step_count(s - n)
+        }
     }
 
     fn step(&self, s: usize, k: usize) -> Option<(u8, u8)> {
