@@ -15,7 +15,8 @@ use Rattle.std.proofs.shelf.Maps.{nth-getD}
 use Rattle.std.proofs.shelf.Tests.{le-ltb, lt-ltb, cases-lt}
 use Rattle.lts.specs.Meaning.{Meaning, Lawful}
 use Rattle.lts.specs.Layout.{from, step-at, listed, stored, Sound}
-use Rattle.lts.specs.Copying.{before, total, Filled}
+use Rattle.lts.specs.Copying.{before, total}
+use Rattle.lts.specs.Filling.{Filled}
 use Rattle.lts.specs.declared.procedure.Procedure.{Procedure}
 use Rattle.lts.specs.Laws.Member.{listed-action, listed-target}
 use Rattle.lts.specs.Laws.Same.{same-meaning}
@@ -60,7 +61,7 @@ module _ {most : ℕ} (m : Meaning) (law : Lawful most m) (few : most ≤ 128) (
 
   -- a filled place holds a listed step
   Listed : ℕ → Type 0
-  Listed k = (s i : ℕ) × (nth (m .steps s) i ≡ Some (step-at p k))
+  Listed k = (s i : ℕ) × (Some (step-at p k) ≡ nth (m .steps s) i)
 
   filled-place : (k : ℕ) → k < total m → Listed k
   unfolding Listed
@@ -68,7 +69,7 @@ module _ {most : ℕ} (m : Meaning) (law : Lawful most m) (few : most ≤ 128) (
       let r = place-state m (m .count) k h in
       let e = filled .full (r .0) (r .1) (r .2) (r .3) in
       let f = ap (step-at p) (r .4) ∙ e in
-      (r .0, r .1, nth-getD (m .steps (r .0)) (r .1) (0, 0) (r .3) ∙ ap Some (sym f))
+      (r .0, r .1, ap Some f ∙ sym (nth-getD (m .steps (r .0)) (r .1) (0, 0) (r .3)))
 
   pub sound-copy : total m ≤ 512 → Sound p
   unfolding Listed

@@ -11,7 +11,8 @@ use Rattle.std.specs.declared.option.Option.the-variants.{Some}
 use Rattle.std.proofs.shelf.Tests.{cases-lt}
 use Rattle.lts.specs.Meaning.{Meaning}
 use Rattle.lts.specs.Layout.{from, step-at}
-use Rattle.lts.specs.Copying.{before, total, Filled}
+use Rattle.lts.specs.Copying.{before, total}
+use Rattle.lts.specs.Filling.{Filled}
 use Rattle.lts.specs.declared.procedure.Procedure.{Procedure}
 use Rattle.lts.specs.Laws.Member.{nth-is}
 use Rattle.lts.proofs.Counting.{before-more, before-rises, state-room}

@@ -29,5 +29,5 @@ module _ (p q : Meaning) (n s : ℕ) (all : n ≡ p .count) (past : n ≤ s) whe
     target-on left right f g =
         let l = left .few in
         let r = right .few in
-        let h = listed-target q right (s - n) k a t (sym at) in
+        let h = listed-target q right (s - n) k a t at in
         omega arith

@@ -16,7 +16,7 @@ use Rattle.lts.specs.Laws.Member.{nth-map, listed-action}
 pub has-entry : (entries : List ℕ) (a : ℕ) → a ≤ 63 → entry entries a ≡ Some (getD entries a 0)
 has-entry entries a h = let l : a < 64 = omega arith in rw (lt-ltb a 64 l)
 
-module _ (entries : List ℕ) {most : ℕ} (m : Meaning) (law : Lawful most m) (s k a t : ℕ) (at : nth (m .steps s) k ≡ Some (a, t)) where
+module _ (entries : List ℕ) {most : ℕ} (m : Meaning) (law : Lawful most m) (s k a t : ℕ) (at : Some (a, t) ≡ nth (m .steps s) k) where
   pub entry-found : None ≡ entry entries a → ⊥
   entry-found e =
       let f = has-entry entries a (listed-action m law s k a t at) in
@@ -27,4 +27,4 @@ module _ (entries : List ℕ) {most : ℕ} (m : Meaning) (law : Lawful most m) (
   step-mapped b e =
       let f = has-entry entries a (listed-action m law s k a t at) in
       let g : b ≡ getD entries a 0 = cc in
-      ap (λ (v : ℕ). Some (v, t)) g ∙ sym (nth-map (replaced entries) (m .steps s) k (a, t) at)
+      ap (λ (v : ℕ). Some (v, t)) g ∙ sym (nth-map (replaced entries) (m .steps s) k (a, t) (sym at))

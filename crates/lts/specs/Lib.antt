@@ -4,4 +4,5 @@ pub mod Fault
 pub mod Map
 pub mod Joined
 pub mod Copying
+pub mod Filling
 pub mod Laws

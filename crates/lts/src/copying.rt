@@ -1,7 +1,8 @@
 // The copy of a source that a slot keeps.
 ghost use Prim.Native.Nat.{_+_, _<_, _≤_};
 ghost use mathlib.Core.Path.{_≡_};
-ghost use Rattle.lts.specs.Copying.{total, Copied, Filled};
+ghost use Rattle.lts.specs.Copying.{total, Copied};
+ghost use Rattle.lts.specs.Filling.{Filled};
 use crate::procedure::Procedure;
 use crate::source::Source;
 

@@ -7,13 +7,13 @@ use crate::source::Source;
 use crate::system::System;
 
 #[derive_where(Clone, Copy)]
-pub struct Pair<'a, L, R, const M: usize, const N: usize> {
+pub struct Pair<'a, 'b, L, R, const M: usize, const N: usize> {
     pub left: &'a L,
-    pub right: &'a R,
+    pub right: &'b R,
 }
 
-impl<'a, const M: usize, const N: usize, L: Source<M>, R: Source<N>> Pair<'a, L, R, M, N> {
-    pub fn new(left: &'a L, right: &'a R) -> Self
+impl<'a, 'b, const M: usize, const N: usize, L: Source<M>, R: Source<N>> Pair<'a, 'b, L, R, M, N> {
+    pub fn new(left: &'a L, right: &'b R) -> Self
         ensures left { λ r. ⌜ now (r .left) ≡ now (left .entry) ⌝ }
         ensures right { λ r. ⌜ now (r .right) ≡ now (right .entry) ⌝ }
     {
@@ -21,13 +21,18 @@ impl<'a, const M: usize, const N: usize, L: Source<M>, R: Source<N>> Pair<'a, L,
     }
 }
 
-pub impl<'a, const M: usize, const N: usize, L: Source<M>, R: Source<N>> System for Pair<
+pub impl<'a, 'b, L, R, const M: usize, const N: usize> System for Pair<
     'a,
+    'b,
     L,
     R,
     M,
     N,
-> as PairSystem {
+> as PairSystem
+where
+    L: Source<M>,
+    R: Source<N>,
+{
     ghost meaning = { λ x. joined (L·Source .meaning (now (x .left))) (R·Source .meaning (now (x .right))) };
 
     ghost lawful = { λ x. joined-lawful (L·Source .meaning (now (x .left))) (R·Source .meaning (now (x .right))) (L·Source .lawful (now (x .left))) (R·Source .lawful (now (x .right))) (L·Source .bounded) (R·Source .bounded) };

@@ -7,12 +7,15 @@ use crate::source::Most;
 use crate::source::Source;
 
 #[derive_where(Clone, Copy)]
-pub struct Mapped<'a, S, const N: usize> {
+pub struct Mapped<'a, 'b, S, const N: usize> {
     pub map: &'a ActionMap,
-    pub source: &'a S,
+    pub source: &'b S,
 }
 
-pub impl<'a, const N: usize, S: Source<N>> Source<N> for Mapped<'a, S, N> as MappedSource {
+pub impl<'a, 'b, S, const N: usize> Source<N> for Mapped<'a, 'b, S, N> as MappedSource
+where
+    S: Source<N>,
+{
     const MOST: Most<N> = S::MOST;
 
     ghost bounded = { S·Source .bounded };

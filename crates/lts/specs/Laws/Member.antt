@@ -69,7 +69,7 @@ nth-inside x [] k e = let z : _≡_ {A = ℕ} 0 1 = cc in omega arith
 nth-inside x (y ∷ xs) zero e = omega arith
 nth-inside x (y ∷ xs) (suc k) e = let h = nth-inside x xs k e in omega arith
 
-pub nth-missing : {X : Type 0} (xs : List X) (k : ℕ) → nth xs k ≡ None → length xs ≤ k
+pub nth-missing : {X : Type 0} (xs : List X) (k : ℕ) → None ≡ nth xs k → length xs ≤ k
 nth-missing [] k e = omega arith
 nth-missing (y ∷ xs) zero e = let z : _≡_ {A = ℕ} 0 1 = cc in omega arith
 nth-missing (y ∷ xs) (suc k) e = let h = nth-missing xs k e in omega arith
@@ -88,10 +88,10 @@ pub nth-right : {X : Type 0} (xs ys : List X) (k : ℕ) → nth (xs ++ ys) (leng
 nth-right [] ys k = rw zero-add
 nth-right (x ∷ xs) ys k = rw suc-add (nth-right xs ys k)
 
--- the step that a source lists at a place keeps the source's bounds
-module _ {most : ℕ} (m : Meaning) (law : Lawful most m) (s k a t : ℕ) (at : nth (m .steps s) k ≡ Some (a, t)) where
+-- the step that a source answers for a place keeps the source's bounds
+module _ {most : ℕ} (m : Meaning) (law : Lawful most m) (s k a t : ℕ) (at : Some (a, t) ≡ nth (m .steps s) k) where
   pub listed-action : a ≤ 63
-  listed-action = law .acts s a t (nth-in (a, t) (m .steps s) k at)
+  listed-action = law .acts s a t (nth-in (a, t) (m .steps s) k (sym at))
 
   pub listed-target : t < m .count
-  listed-target = law .aims s a t (nth-in (a, t) (m .steps s) k at)
+  listed-target = law .aims s a t (nth-in (a, t) (m .steps s) k (sym at))

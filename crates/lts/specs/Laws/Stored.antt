@@ -12,7 +12,7 @@ use Rattle.std.specs.Iters.{counting}
 use Rattle.std.proofs.shelf.Counted.{length-map-counting}
 use Rattle.std.proofs.shelf.Tests.{le-ltb, lt-ltb, ltb-true, cases-lt}
 use Rattle.lts.specs.Meaning.{Meaning, Lawful, In}
-use Rattle.lts.specs.Layout.{from, step-at, listed, stored}
+use Rattle.lts.specs.Layout.{from, step-at, listed, stored, Sound}
 use Rattle.lts.specs.declared.procedure.Procedure.{Procedure}
 use Rattle.lts.specs.Laws.Member.{from-map, in-counting}
 
@@ -85,3 +85,6 @@ module _ (p : Procedure) (some : 1 ≤ p .states) (few : p .states ≤ 128) (ris
   pub stored-lawful : Lawful 128 (stored p)
   stored-lawful =
       record { some = some; few = few; no-ends = λ s l. rw (le-ltb s (p .states) l); no-steps = λ s l. rw (le-ltb s (p .states) l); short = brief; acts = listed-acts; aims = listed-aims }
+
+pub sound-lawful : (p : Procedure) → Sound p → Lawful 128 (stored p)
+sound-lawful p h = stored-lawful p (h .some) (h .few) (h .rises) (h .room) (h .acts) (h .aims)

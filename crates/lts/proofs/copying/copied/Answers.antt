@@ -1,7 +1,8 @@
 use native.Mathlib.Omega.{arith}
 use Prim.Native.Nat.{_≤_}
 use mathlib.Core.Path.{_≡_}
-use Rattle.lts.specs.Copying.{total, Filled}
+use Rattle.lts.specs.Copying.{total}
+use Rattle.lts.specs.Filling.{Filled}
 use Rattle.lts.proofs.Copies.{same-copy, sound-copy}
 use Rattle.lts.proofs.copying.copied.Needs as need
 

@@ -1,4 +1,4 @@
-use Rattle.lts.specs.Copying.{Filled}
+use Rattle.lts.specs.Filling.{Filled}
 use Rattle.lts.proofs.copying.copied.Given as given
 
 abbrev pub Inv-loop-s : given.InvT-loop-s

@@ -1,9 +1,9 @@
 use borrow.Author.Needs.{needs}
 use native.Mathlib.Omega.{arith}
 use Prim.Native.Nat.{_<_}
-use mathlib.Core.Path.{_≡_, sym}
+use mathlib.Core.Path.{_≡_}
 use lib.ListN.{length}
-use Rattle.lts.specs.Copying.{Filled}
+use Rattle.lts.specs.Filling.{Filled}
 use Rattle.lts.specs.Layout.{from}
 use Rattle.lts.specs.Laws.Member.{nth-missing}
 use Rattle.lts.proofs.Filling.{place-room, put-step, close-state}
@@ -30,7 +30,7 @@ loop-k-again g c =
     let m = g .S·Source .meaning (c .args .source .now) in
     let h = place-room m (c .args .s) 0 (c .args .to .now) (c .pre .filled) (c .pre .state) (c .pre .room) in
     let l : c .loop-k .k < length (m .steps (c .args .s)) = omega (arith, c .step-count-count .ensures) in
-    elim (c .match-step .came) [ in-Some w ↦ rw (w .to-is) (put-step m (c .args .s) (c .loop-k .k) (from (c .args .to .now) (c .args .s)) (c .loop-k .to) (c .loop-k .inv) (h .0) (w .in-Some .step) (w .in-Some .ensures tt) (omega arith)) | in-rest w ↦ let past = nth-missing (m .steps (c .args .s)) (c .loop-k .k) (sym (w .in-rest .ensures tt)) in let b : ⊥ = omega arith in absurd b ]
+    elim (c .match-step .came) [ in-Some w ↦ rw (w .to-is) (put-step m (c .args .s) (c .loop-k .k) (from (c .args .to .now) (c .args .s)) (c .loop-k .to) (c .loop-k .inv) (h .0) (w .in-Some .step) (w .in-Some .ensures tt) (omega arith)) | in-rest w ↦ let past = nth-missing (m .steps (c .args .s)) (c .loop-k .k) (w .in-rest .ensures tt) in let b : ⊥ = omega arith in absurd b ]
 
 pub add-to : need.add-to
 add-to g c =

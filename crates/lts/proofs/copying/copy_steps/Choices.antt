@@ -1,4 +1,4 @@
-use Rattle.lts.specs.Copying.{Filled}
+use Rattle.lts.specs.Filling.{Filled}
 use Rattle.lts.proofs.copying.copy_steps.Given as given
 
 abbrev pub Inv-loop-k : given.InvT-loop-k

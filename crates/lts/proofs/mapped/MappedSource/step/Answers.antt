@@ -10,8 +10,8 @@ returns-in-Break-action g c =
 
 pub returns-in-Break-entry : need.returns-in-Break-entry
 returns-in-Break-entry g c =
-    absurd (entry-found (c .args .self .now .map .now .entries) (g .S·Source .meaning (c .args .self .now .source .now)) (g .S·Source .lawful (c .args .self .now .source .now)) (c .args .s) (c .args .k) (c .in-Continue-action .action) (c .in-Continue-action .target) (sym (c .in-Continue-action .ensures tt)) (c .in-Break-entry .ensures tt))
+    absurd (entry-found (c .args .self .now .map .now .entries) (g .S·Source .meaning (c .args .self .now .source .now)) (g .S·Source .lawful (c .args .self .now .source .now)) (c .args .s) (c .args .k) (c .in-Continue-action .action) (c .in-Continue-action .target) (c .in-Continue-action .ensures tt) (c .in-Break-entry .ensures tt))
 
 pub returns : need.returns
 returns g c =
-    step-mapped (c .args .self .now .map .now .entries) (g .S·Source .meaning (c .args .self .now .source .now)) (g .S·Source .lawful (c .args .self .now .source .now)) (c .args .s) (c .args .k) (c .in-Continue-action .action) (c .in-Continue-action .target) (sym (c .in-Continue-action .ensures tt)) (c .in-Continue-entry .entry) (c .in-Continue-entry .ensures tt)
+    step-mapped (c .args .self .now .map .now .entries) (g .S·Source .meaning (c .args .self .now .source .now)) (g .S·Source .lawful (c .args .self .now .source .now)) (c .args .s) (c .args .k) (c .in-Continue-action .action) (c .in-Continue-action .target) (c .in-Continue-action .ensures tt) (c .in-Continue-entry .entry) (c .in-Continue-entry .ensures tt)
