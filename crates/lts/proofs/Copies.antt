@@ -1,11 +1,8 @@
 -- A procedure that is filled to the last state is sound, and means what the source means.
 use Prim.Native.Nat.{ℕ, _+_, _-_, _<_, _≤_}
 use native.Mathlib.Omega.{arith}
-use mathlib.Core.Bool.{Bool, true, false, cond, _&&_}
-use mathlib.Core.List.{List, []}
 use mathlib.Core.Logic.{⊎-elim}
-use mathlib.Core.Path.{_≡_, refl, sym, ap, _∙_}
-use lib.Dec.{ltb}
+use mathlib.Core.Path.{_≡_, sym, ap, _∙_}
 use lib.ListN.{length, getD}
 use Rattle.std.specs.Finite.{nth}
 use Rattle.std.specs.declared.option.Option.the-variants.{Some}
@@ -20,7 +17,7 @@ use Rattle.lts.specs.Filling.{Filled}
 use Rattle.lts.specs.declared.procedure.Procedure.{Procedure}
 use Rattle.lts.specs.Laws.Member.{listed-action, listed-target}
 use Rattle.lts.specs.Laws.Same.{same-meaning}
-use Rattle.lts.proofs.Counting.{before-more, before-rises, place-state}
+use Rattle.lts.proofs.Counting.{before-more, place-state}
 
 module _ {most : ℕ} (m : Meaning) (law : Lawful most m) (few : most ≤ 128) (p : Procedure) (filled : Filled m (m .count) 0 p) where
   same-listed : (s : ℕ) → s < m .count → listed p s ≡ m .steps s

@@ -1,7 +1,7 @@
 -- What a joined system answers for a state of the right, from the number n of states of the left.
 use Prim.Native.Nat.{ℕ, _+_, _-_, _<_, _≤_}
 use native.Mathlib.Omega.{arith}
-use mathlib.Core.List.{List, map}
+use mathlib.Core.List.{map}
 use mathlib.Core.Path.{_≡_, sym, _∙_, ap}
 use lib.ListN.{length, length-map}
 use Rattle.std.specs.Finite.{nth}

@@ -1,7 +1,7 @@
 -- Two procedures side by side: the states of p, then those of q.
 use Prim.Native.Nat.{ℕ, _+_, _-_}
-use mathlib.Core.Bool.{Bool, cond}
-use mathlib.Core.List.{List, map}
+use mathlib.Core.Bool.{cond}
+use mathlib.Core.List.{map}
 use lib.Dec.{ltb}
 use Rattle.lts.specs.Meaning.{Meaning}
 

@@ -2,11 +2,10 @@
 use Prim.Native.Nat.{ℕ, _+_, _-_, _≤_, _<_}
 use native.Mathlib.Omega.{arith}
 use mathlib.Core.Bool.{false}
-use mathlib.Core.List.{List, [], map}
-use mathlib.Core.Logic.{_⊎_, ⊎-elim}
-use mathlib.Core.Path.{_≡_, refl, sym, ap, subst, _∙_}
+use mathlib.Core.List.{[], map}
+use mathlib.Core.Logic.{⊎-elim}
+use mathlib.Core.Path.{_≡_, sym, ap, subst, _∙_}
 use lib.ListN.{length, length-map}
-use Rattle.std.specs.Finite.{nth}
 use Rattle.std.proofs.shelf.Tests.{le-ltb, lt-ltb, cases-lt}
 use Rattle.lts.specs.Meaning.{Meaning, Lawful, In}
 use Rattle.lts.specs.Joined.{raised, joined}

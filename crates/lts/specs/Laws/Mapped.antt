@@ -3,7 +3,7 @@ use Prim.Native.Nat.{ℕ, _≤_, _<_}
 use native.Mathlib.Omega.{arith}
 use mathlib.Core.List.{List, map}
 use mathlib.Core.Path.{_≡_, ap}
-use lib.ListN.{length, getD, length-map}
+use lib.ListN.{getD, length-map}
 use Rattle.lts.specs.Meaning.{Meaning, Lawful, In}
 use Rattle.lts.specs.Map.{ActionsBelow, replaced, mapped}
 use Rattle.lts.specs.Laws.Member.{from-map}

@@ -2,16 +2,13 @@
 use Prim.Native.Nat.{ℕ, zero, suc, _+_, _-_, _<_, _≤_}
 use native.Mathlib.Nat.{add-zero}
 use native.Mathlib.Omega.{arith}
-use mathlib.Core.Bool.{Bool, true, false, cond, _&&_}
-use mathlib.Core.List.{List, [], _∷_, map}
-use mathlib.Core.Logic.{_⊎_, inl, inr, ⊎-elim}
-use mathlib.Core.Path.{_≡_, refl, sym, ap, subst, _∙_}
-use lib.Dec.{ltb}
-use lib.ListN.{length, getD}
+use mathlib.Core.Logic.{⊎-elim}
+use mathlib.Core.Path.{_≡_, ap}
+use lib.ListN.{length}
 use Rattle.std.specs.Iters.{counting}
 use Rattle.std.proofs.shelf.Counted.{length-map-counting}
-use Rattle.std.proofs.shelf.Tests.{le-ltb, lt-ltb, ltb-true, cases-lt}
-use Rattle.lts.specs.Meaning.{Meaning, Lawful, In}
+use Rattle.std.proofs.shelf.Tests.{le-ltb, lt-ltb, cases-lt}
+use Rattle.lts.specs.Meaning.{Lawful, In}
 use Rattle.lts.specs.Layout.{from, step-at, listed, stored, Sound}
 use Rattle.lts.specs.declared.procedure.Procedure.{Procedure}
 use Rattle.lts.specs.Laws.Member.{from-map, in-counting}

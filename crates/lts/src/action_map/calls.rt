@@ -1,6 +1,5 @@
 // How an action map is made, and what it answers.
 ghost use mathlib.Core.Path.{_≡_};
-ghost use lib.ListN.{getD};
 ghost use Rattle.lts.specs.Map.{Made, entry};
 use crate::action_map::ActionMap;
 use crate::map_fault::MapFault;

@@ -1,7 +1,4 @@
 use borrow.Author.Needs.{needs}
-use native.Mathlib.Omega.{arith}
-use Prim.Native.Nat.{_+_, _<_, _≤_, _^_}
-use mathlib.Core.Path.{sym, _∙_}
 use Rattle.lts.proofs.Counting.{before-more, before-few}
 use Rattle.lts.proofs.copying.step_total.Needs as need
 

@@ -1,4 +1,3 @@
-use mathlib.Core.Path.{sym, _∙_}
 use lib.ListN.{length-map}
 use Rattle.lts.specs.Map.{replaced}
 use Rattle.lts.proofs.mapped.MappedSource.step_count.Needs as need
