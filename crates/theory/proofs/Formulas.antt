@@ -7,7 +7,8 @@ use Rattle.std.proofs.shelf.Tests.{cases-lt}
 use Rattle.lts.specs.Meaning.{Meaning}
 use Rattle.theory.specs.Bisimulation.{turned, BisimulationOf, Passing, Related}
 use Rattle.theory.specs.Rounds.{Agree}
-use Rattle.theory.specs.Formulas.{Formula, T, E, N, A, D, Holds, depth, Tells, Separates}
+use Rattle.theory.specs.Formulas.{Formula, T, E, N, A, D, Holds, depth, Separates}
+use Rattle.theory.specs.Theorems.{Bisimilar-formulas, Related-formulas, Separated-unrelated, Agree-formulas, Separated-disagree, Separated-depth}
 use Rattle.theory.proofs.Relations.{turn}
 use Rattle.theory.proofs.Rounds.{agree-falls, agree-symmetric}
 
@@ -20,17 +21,19 @@ keeps (D a f) p q R b s t r h =
     let y = b .forth s t r a (h .0) (h .1) in
     (y .0, y .1, keeps f p q R b (h .0) (y .0) (y .2) (h .2))
 
-module _ (p q : Meaning) (R : ℕ → ℕ → Type 0) (b : BisimulationOf p q R) (s t : ℕ) (r : R s t) where
-  pub bisimilar-formulas : (f : Formula) → Holds p s f ↔ Holds q t f
-  bisimilar-formulas f = (keeps f p q R b s t r, keeps f q p (turned R) (turn p q R b) t s r)
+pub bisimilar-formulas : (R : ℕ → ℕ → Type 0) → Bisimilar-formulas R
+bisimilar-formulas R p q s t b r f = (keeps f p q R b s t r, keeps f q p (turned R) (turn p q R b) t s r)
 
-  pub separated-unrelated : (f : Formula) → Separates p q s t f → ⊥
-  separated-unrelated f d =
-      let same = bisimilar-formulas f in
-      ⊎-elim (λ (h : Tells p q s t f). h .1 (same .0 (h .0))) (λ (h : Tells q p t s f). h .1 (same .1 (h .0))) d
+pub related-formulas : Related-formulas
+related-formulas p q s t r = bisimilar-formulas (Passing (r .0)) p q s t (r .1) (r .2)
 
-pub related-formulas : (p q : Meaning) (s t : ℕ) → Related p q s t → (f : Formula) → Holds p s f ↔ Holds q t f
-related-formulas p q s t r = bisimilar-formulas p q (Passing (r .0)) (r .1) s t (r .2)
+-- a formula that separates does not hold at both alike
+not-alike : (p q : Meaning) (s t : ℕ) (f : Formula) → Separates p q s t f → Holds p s f ↔ Holds q t f → ⊥
+not-alike p q s t f (inl h) same = h .1 (same .0 (h .0))
+not-alike p q s t f (inr h) same = h .1 (same .1 (h .0))
+
+pub separated-unrelated : (R : ℕ → ℕ → Type 0) → Separated-unrelated R
+separated-unrelated R p q s t f d b r = not-alike p q s t f d (bisimilar-formulas R p q s t b r f)
 
 keeps-to : (f : Formula) (m : Meaning) (k s t : ℕ) → depth f ≤ k → Agree m k s t → Holds m s f → Holds m t f
 keeps-to T m k s t l r h = tt
@@ -42,14 +45,12 @@ keeps-to (D a f) m (suc k) s t l r h =
     let y = r .1 a (h .0) (h .1) in
     (y .0, y .1, keeps-to f m k (h .0) (y .0) (omega arith) (y .2) (h .2))
 
-pub agree-formulas : (m : Meaning) (k s t : ℕ) → Agree m k s t → (f : Formula) → depth f ≤ k → Holds m s f ↔ Holds m t f
+pub agree-formulas : Agree-formulas
 agree-formulas m k s t r f l = (keeps-to f m k s t l r, keeps-to f m k t s l (agree-symmetric m k s t r))
 
-pub separated-disagree : (m : Meaning) (s t : ℕ) (f : Formula) → Separates m m s t f → Agree m (depth f) s t → ⊥
-separated-disagree m s t f d r =
-    let same = agree-formulas m (depth f) s t r f (omega arith) in
-    ⊎-elim (λ (h : Tells m m s t f). h .1 (same .0 (h .0))) (λ (h : Tells m m t s f). h .1 (same .1 (h .0))) d
+pub separated-disagree : Separated-disagree
+separated-disagree m s t f d r = not-alike m m s t f d (agree-formulas m (depth f) s t r f (omega arith))
 
-pub separated-depth : (m : Meaning) (d s t : ℕ) (f : Formula) → ((k : ℕ) → k < d → Agree m k s t) → Separates m m s t f → d ≤ depth f
+pub separated-depth : Separated-depth
 separated-depth m d s t f agreed z =
     ⊎-elim (λ (l : depth f < d). absurd (separated-disagree m s t f z (agreed (depth f) l))) (λ (l : d ≤ depth f). l) (cases-lt (depth f) d)

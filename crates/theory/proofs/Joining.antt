@@ -14,11 +14,12 @@ use Rattle.lts.specs.Laws.Member.{in-map, from-map}
 use Rattle.theory.specs.Bisimulation.{turned, BisimulationOf, Related, Inside}
 use Rattle.theory.specs.Formulas.{Formula, Holds}
 use Rattle.theory.specs.Joins.{Joins, raised}
+use Rattle.theory.specs.Theorems.{Joined-related, Joined-left, Joined-right}
 use Rattle.theory.proofs.Relations.{Decided, related-by, related-symmetric, related-transitive, turn, Through, compose}
 use Rattle.theory.proofs.Formulas.{related-formulas}
 
 -- state s, below n, stands at place k + s
-abbrev Placed : ℕ → ℕ → ℕ → ℕ → Type 0
+abbrev pub Placed : ℕ → ℕ → ℕ → ℕ → Type 0
 Placed n k s x = (s < n) × (k + s ≡ x)
 
 placed-decided : (n k : ℕ) → Decided (λ s x. ltb s n && eqb (k + s) x) (Placed n k)
@@ -29,7 +30,7 @@ module _ (p m : Meaning) (k : ℕ) (in-p : Inside p) (ends : (s : ℕ) → s < p
   steps-at : (s x : ℕ) → Placed (p .count) k s x → m .steps x ≡ map (raised k) (p .steps s)
   steps-at s x h = ap (m .steps) (sym (h .1)) ∙ steps s (h .0)
 
-  pub placed-bisimulation : BisimulationOf p m (Placed (p .count) k)
+  placed-bisimulation : BisimulationOf p m (Placed (p .count) k)
   placed-bisimulation =
       record
         { alike = λ s x h. sym (ends s (h .0)) ∙ ap (m .ends) (h .1)
@@ -42,8 +43,8 @@ module _ (p m : Meaning) (k : ℕ) (in-p : Inside p) (ends : (s : ℕ) → s < p
             (r .0 .1, j, (in-p s a (r .0 .1) (h .0) j, ap (λ (v : ℕ × ℕ). v .1) (sym (r .2))))
         }
 
-  pub placed-related : (s : ℕ) → s < p .count → Related p m s (k + s)
-  placed-related s l = related-by p m _ (Placed (p .count) k) (placed-decided (p .count) k) placed-bisimulation s (k + s) (l, refl)
+placed-related : (n k : ℕ) (p m : Meaning) → BisimulationOf p m (Placed n k) → (s : ℕ) → s < n → Related p m s (k + s)
+placed-related n k p m b s l = related-by p m _ (Placed n k) (placed-decided n k) b s (k + s) (l, refl)
 
 raised-none : (xs : List (ℕ × ℕ)) → xs ≡ map (raised 0) xs
 raised-none [] = refl
@@ -56,52 +57,49 @@ module _ (p q m : Meaning) (j : Joins p q m) where
   left-steps : (s : ℕ) → s < p .count → m .steps (0 + s) ≡ map (raised 0) (p .steps s)
   left-steps s l = ap (m .steps) (zero-add s) ∙ (j .left-steps s l ∙ raised-none (p .steps s))
 
+  pub left-placed : Inside p → BisimulationOf p m (Placed (p .count) 0)
+  left-placed in-p = placed-bisimulation p m 0 in-p left-ends left-steps
+
+  pub right-placed : Inside q → BisimulationOf q m (Placed (q .count) (p .count))
+  right-placed in-q = placed-bisimulation q m (p .count) in-q (j .right-ends) (j .right-steps)
+
   pub left-related : Inside p → (s : ℕ) → s < p .count → Related p m s s
-  left-related in-p s l = let r = placed-related p m 0 in-p left-ends left-steps s l in rw zero-add at r
+  left-related in-p s l = let r = placed-related (p .count) 0 p m (left-placed in-p) s l in rw zero-add at r
 
   pub right-related : Inside q → (t : ℕ) → t < q .count → Related q m t (p .count + t)
-  right-related in-q = placed-related q m (p .count) in-q (j .right-ends) (j .right-steps)
+  right-related in-q = placed-related (q .count) (p .count) q m (right-placed in-q)
 
-  pub joined-left : (s : ℕ) → Inside p → s < p .count → (f : Formula) → Holds p s f ↔ Holds m s f
-  joined-left s in-p l = related-formulas p m s s (left-related in-p s l)
+pub joined-left : Joined-left
+joined-left p q m s j in-p l = related-formulas p m s s (left-related p q m j in-p s l)
 
-  pub joined-right : (t : ℕ) → Inside q → t < q .count → (f : Formula) → Holds q t f ↔ Holds m (p .count + t) f
-  joined-right t in-q l = related-formulas q m t (p .count + t) (right-related in-q t l)
+pub joined-right : Joined-right
+joined-right p q m t j in-q l = related-formulas q m t (p .count + t) (right-related p q m j in-q t l)
 
-  module _ (in-p : Inside p) (in-q : Inside q) where
-    -- a step of the whole leads to a state of the whole
-    pub joined-inside : Inside m
-    joined-inside s a t l i = ⊎-elim left right (cases-lt s (p .count))
-      where
-        n : m .count ≡ p .count + q .count
-        n = j .counts
+-- a step of the whole leads to a state of the whole
+pub joined-inside : (p q m : Meaning) → Joins p q m → Inside p → Inside q → Inside m
+joined-inside p q m j in-p in-q s a t l i = ⊎-elim left right (cases-lt s (p .count))
+  where
+    n : m .count ≡ p .count + q .count
+    n = j .counts
 
-        left : s < p .count → t < m .count
-        left h = let k = in-p s a t h (subst (In (a, t)) (j .left-steps s h) i) in omega arith
+    left : s < p .count → t < m .count
+    left h = let k = in-p s a t h (subst (In (a, t)) (j .left-steps s h) i) in omega arith
 
-        right : p .count ≤ s → t < m .count
-        right h =
-            let u = s - p .count in
-            let e : s ≡ p .count + u = omega arith in
-            let h′ : u < q .count = omega arith in
-            let r = from-map (raised (p .count)) (a, t) (q .steps u) (subst (In (a, t)) (ap (m .steps) e ∙ j .right-steps u h′) i) in
-            let k = in-q u (r .0 .0) (r .0 .1) h′ (r .1) in
-            let d : t ≡ p .count + r .0 .1 = ap (λ (v : ℕ × ℕ). v .1) (r .2) in
-            omega arith
+    right : p .count ≤ s → t < m .count
+    right h =
+        let u = s - p .count in
+        let e : s ≡ p .count + u = omega arith in
+        let h′ : u < q .count = omega arith in
+        let r = from-map (raised (p .count)) (a, t) (q .steps u) (subst (In (a, t)) (ap (m .steps) e ∙ j .right-steps u h′) i) in
+        let k = in-q u (r .0 .0) (r .0 .1) h′ (r .1) in
+        let d : t ≡ p .count + r .0 .1 = ap (λ (v : ℕ × ℕ). v .1) (r .2) in
+        omega arith
 
-    module _ (s t : ℕ) (ls : s < p .count) (lt : t < q .count) where
-      left-here : Related p m s s
-      left-here = left-related in-p s ls
-
-      right-here : Related q m t (p .count + t)
-      right-here = right-related in-q t lt
-
-      inside-left : s < m .count
-      inside-left = let n = j .counts in omega arith
-
-      inside-right : p .count + t < m .count
-      inside-right = let n = j .counts in omega arith
-
-      pub joined-related : Related p q s t ↔ Related m m s (p .count + t)
-      joined-related =
-          (λ r. related-transitive m p m s s (p .count + t) in-p ls (related-symmetric p m s s left-here) (related-transitive p q m s t (p .count + t) in-q lt r right-here), λ r. related-transitive p m q s s t joined-inside inside-left left-here (related-transitive m m q s (p .count + t) t joined-inside inside-right r (related-symmetric q m t (p .count + t) right-here)))
+pub joined-related : Joined-related
+joined-related p q m s t j in-p in-q ls lt =
+    let left = left-related p q m j in-p s ls in
+    let right = right-related p q m j in-q t lt in
+    let in-m = joined-inside p q m j in-p in-q in
+    let n = j .counts in
+    ( λ r. related-transitive m p m s s (p .count + t) in-p ls (related-symmetric p m s s left) (related-transitive p q m s t (p .count + t) in-q lt r right)
+    , λ r. related-transitive p m q s s t in-m (omega arith) left (related-transitive m m q s (p .count + t) t in-m (omega arith) r (related-symmetric q m t (p .count + t) right)) )

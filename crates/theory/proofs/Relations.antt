@@ -8,6 +8,7 @@ use Rattle.std.specs.Orderings.{Decides}
 use Rattle.std.proofs.shelf.Ways.{decides-eqb, decides-and, decides-below-or}
 use Rattle.lts.specs.Meaning.{Meaning, In}
 use Rattle.theory.specs.Bisimulation.{Answered, turned, BisimulationOf, Passing, Bisimulation, Related, Inside}
+use Rattle.theory.specs.Theorems.{Related-reflexive, Related-symmetric, Related-transitive}
 
 -- the test R decides the relation S
 abbrev pub Decided : (ℕ → ℕ → Bool) → (ℕ → ℕ → Type 0) → Type 0
@@ -26,13 +27,13 @@ pub equality : (m : Meaning) → BisimulationOf m m (λ s t. s ≡ t)
 equality m =
     record { alike = λ s t e. ap (m .ends) e; forth = λ s t e a x i. (x, subst (λ (v : ℕ). In (a, x) (m .steps v)) e i, refl); back = λ s t e a x i. (x, subst (λ (v : ℕ). In (a, x) (m .steps v)) (sym e) i, refl) }
 
-pub related-reflexive : (m : Meaning) (s : ℕ) → Related m m s s
+pub related-reflexive : Related-reflexive
 related-reflexive m s = related-by m m eqb (λ x y. x ≡ y) decides-eqb (equality m) s s refl
 
 pub turn : (p q : Meaning) (R : ℕ → ℕ → Type 0) → BisimulationOf p q R → BisimulationOf q p (turned R)
 turn p q R b = record { alike = λ t s h. sym (b .alike s t h); forth = λ t s h. b .back s t h; back = λ t s h. b .forth s t h }
 
-pub related-symmetric : (p q : Meaning) (s t : ℕ) → Related p q s t → Related q p t s
+pub related-symmetric : Related-symmetric
 related-symmetric p q s t r = (λ y x. r .0 x y, turn p q (Passing (r .0)) (r .1), r .2)
 
 -- R and then S, over a state below n
@@ -68,6 +69,6 @@ pub decides-through : (n : ℕ) (R S : ℕ → ℕ → Bool) → Decided (λ s u
 decides-through n R S s u =
     decides-some (λ t. R s t && S t u) (λ t. (R s t ≡ true) × (S t u ≡ true)) (λ t. decides-and (R s t) (S t u) (decides-self (R s t)) (decides-self (S t u))) n
 
-pub related-transitive : (p q r : Meaning) (s t u : ℕ) → Inside q → t < q .count → Related p q s t → Related q r t u → Related p r s u
+pub related-transitive : Related-transitive
 related-transitive p q r s t u in-q l x y =
     related-by p r _ (Through (q .count) (Passing (x .0)) (Passing (y .0))) (decides-through (q .count) (x .0) (y .0)) (compose p q r (Passing (x .0)) (Passing (y .0)) in-q (x .1) (y .1)) s u (t, l, (x .2, y .2))

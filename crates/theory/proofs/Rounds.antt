@@ -12,14 +12,15 @@ use Rattle.std.proofs.shelf.Tests.{cases-lt, false≢true}
 use Rattle.lts.specs.Meaning.{Meaning, In}
 use Rattle.theory.specs.Bisimulation.{Answered, turned, BisimulationOf, Passing, Bisimulation, Related, Inside}
 use Rattle.theory.specs.Rounds.{Agree, meets, answered, agree, Closed, Stable}
+use Rattle.theory.specs.Theorems.{Agree-falls, Agree-reflexive, Agree-symmetric, Agree-transitive, Agree-decided, Bisimilar-agree, Related-agree, Stable-bisimulation, Stable-related, Stable-same, Stable-persists}
 use Rattle.theory.proofs.Relations.{Decided, by-test, related-by, decides-self}
 
-pub agree-reflexive : (m : Meaning) (k s : ℕ) → Agree m k s s
+pub agree-reflexive : Agree-reflexive
 agree-reflexive m zero s = refl
 agree-reflexive m (suc k) s =
     (agree-reflexive m k s, λ a x i. (x, i, agree-reflexive m k x), λ a x i. (x, i, agree-reflexive m k x))
 
-pub agree-symmetric : (m : Meaning) (k s t : ℕ) → Agree m k s t → Agree m k t s
+pub agree-symmetric : Agree-symmetric
 agree-symmetric m zero s t h = sym h
 agree-symmetric m (suc k) s t h = (agree-symmetric m k s t (h .0), h .2, h .1)
 
@@ -30,13 +31,13 @@ answered-through xs ys zs R S Z j f g a s i =
     let z = g a (y .0) (y .1) in
     (z .0, z .1, j s (y .0) (z .0) (y .2) (z .2))
 
-pub agree-transitive : (m : Meaning) (k s t u : ℕ) → Agree m k s t → Agree m k t u → Agree m k s u
+pub agree-transitive : Agree-transitive
 agree-transitive m zero s t u g h = g ∙ h
 agree-transitive m (suc k) s t u g h =
     let through : (x y z : ℕ) → Agree m k x y → Agree m k y z → Agree m k x z = agree-transitive m k in
     (through s t u (g .0) (h .0), answered-through (m .steps s) (m .steps t) (m .steps u) _ _ _ through (g .1) (h .1), answered-through (m .steps u) (m .steps t) (m .steps s) _ _ _ through (h .2) (g .2))
 
-pub agree-falls : (m : Meaning) (j k s t : ℕ) → j ≤ k → Agree m k s t → Agree m j s t
+pub agree-falls : Agree-falls
 agree-falls m j zero s t l h = let e : 0 ≡ j = omega arith in subst (λ (n : ℕ). Agree m n s t) e h
 agree-falls m j (suc k) s t l h =
     ⊎-elim
@@ -83,7 +84,7 @@ module _ (R : ℕ → ℕ → Bool) (S : ℕ → ℕ → Type 0) (d : Decided R 
       each : Met S ys x × Answered xs ys S → Answered (x ∷ xs) ys S
       each h a s i = ⊎-elim (λ e. subst (Met S ys) (sym e) (h .0)) (h .1 a s) i
 
-pub agree-decided : (m : Meaning) (k : ℕ) → Decided (agree m k) (Agree m k)
+pub agree-decided : Agree-decided
 agree-decided m zero s t = decides-beq (m .ends s) (m .ends t)
 agree-decided m (suc k) s t =
     let there = decides-answered (agree m k) (Agree m k) (agree-decided m k) in
@@ -92,42 +93,44 @@ agree-decided m (suc k) s t =
 
 -- Rounds against bisimulations.
 
-pub bisimilar-agree : (m : Meaning) (R : ℕ → ℕ → Type 0) → BisimulationOf m m R → (k s t : ℕ) → R s t → Agree m k s t
-bisimilar-agree m R b zero s t h = b .alike s t h
-bisimilar-agree m R b (suc k) s t h =
-    (bisimilar-agree m R b k s t h, λ a x i. let r = b .forth s t h a x i in (r .0, r .1, bisimilar-agree m R b k x (r .0) (r .2)), λ a x i. let r = b .back s t h a x i in (r .0, r .1, agree-symmetric m k (r .0) x (bisimilar-agree m R b k (r .0) x (r .2))))
+pub bisimilar-agree : (R : ℕ → ℕ → Type 0) → Bisimilar-agree R
+bisimilar-agree R m zero s t b h = b .alike s t h
+bisimilar-agree R m (suc k) s t b h =
+    (bisimilar-agree R m k s t b h, λ a x i. let r = b .forth s t h a x i in (r .0, r .1, bisimilar-agree R m k x (r .0) b (r .2)), λ a x i. let r = b .back s t h a x i in (r .0, r .1, agree-symmetric m k (r .0) x (bisimilar-agree R m k (r .0) x b (r .2))))
 
-pub related-agree : (m : Meaning) (k s t : ℕ) → Related m m s t → Agree m k s t
-related-agree m k s t r = bisimilar-agree m (Passing (r .0)) (r .1) k s t (r .2)
+pub related-agree : Related-agree
+related-agree m k s t r = bisimilar-agree (Passing (r .0)) m k s t (r .1) (r .2)
 
-module _ (m : Meaning) (live : ℕ → Bool) (k : ℕ) (closed : Closed m live) (stable : Stable m live k) where
-  -- live states that agree
-  abbrev Live : ℕ → ℕ → Type 0
-  Live s t = (live s ≡ true) × ((live t ≡ true) × Agree m k s t)
+-- states of the set that agree
+abbrev Live : Meaning → (ℕ → Bool) → ℕ → ℕ → ℕ → Type 0
+Live m live k s t = (live s ≡ true) × ((live t ≡ true) × Agree m k s t)
 
-  live-bisimulation : BisimulationOf m m Live
-  live-bisimulation =
-      record
-        { alike = λ s t h. agree-falls m 0 k s t (omega arith) (h .1 .1)
-        ; forth = λ s t h a x i.
-            let r = stable s t (h .0) (h .1 .0) .0 (h .1 .1) .1 a x i in
-            (r .0, r .1, (closed .stays s a x (h .0) i, (closed .stays t a (r .0) (h .1 .0) (r .1), r .2)))
-        ; back = λ s t h a x i.
-            let r = stable s t (h .0) (h .1 .0) .0 (h .1 .1) .2 a x i in
-            (r .0, r .1, (closed .stays s a (r .0) (h .0) (r .1), (closed .stays t a x (h .1 .0) i, agree-symmetric m k x (r .0) (r .2))))
-        }
+live-decided : (m : Meaning) (live : ℕ → Bool) (k : ℕ) → Decided (λ s t. live s && (live t && agree m k s t)) (Live m live k)
+live-decided m live k s t = decides-and _ _ (decides-self (live s)) (decides-and _ _ (decides-self (live t)) (agree-decided m k s t))
 
-  live-decided : Decided (λ s t. live s && (live t && agree m k s t)) Live
-  live-decided s t = decides-and _ _ (decides-self (live s)) (decides-and _ _ (decides-self (live t)) (agree-decided m k s t))
+live-bisimulation : (m : Meaning) (live : ℕ → Bool) (k : ℕ) → Closed m live → Stable m live k → BisimulationOf m m (Live m live k)
+live-bisimulation m live k closed stable =
+    record
+      { alike = λ s t h. agree-falls m 0 k s t (omega arith) (h .1 .1)
+      ; forth = λ s t h a x i.
+          let r = stable s t (h .0) (h .1 .0) .0 (h .1 .1) .1 a x i in
+          (r .0, r .1, (closed .stays s a x (h .0) i, (closed .stays t a (r .0) (h .1 .0) (r .1), r .2)))
+      ; back = λ s t h a x i.
+          let r = stable s t (h .0) (h .1 .0) .0 (h .1 .1) .2 a x i in
+          (r .0, r .1, (closed .stays s a (r .0) (h .0) (r .1), (closed .stays t a x (h .1 .0) i, agree-symmetric m k x (r .0) (r .2))))
+      }
 
-  pub stable-bisimulation : Bisimulation m m (λ s t. live s && (live t && agree m k s t))
-  stable-bisimulation = by-test m m _ Live live-decided live-bisimulation
+pub stable-bisimulation : Stable-bisimulation
+stable-bisimulation m live k c z = by-test m m _ (Live m live k) (live-decided m live k) (live-bisimulation m live k c z)
 
-  pub stable-related : (s t : ℕ) → live s ≡ true → live t ≡ true → Agree m k s t ↔ Related m m s t
-  stable-related s t x y = (λ h. related-by m m _ Live live-decided live-bisimulation s t (x, (y, h)), related-agree m k s t)
+pub stable-related : Stable-related
+stable-related m live k s t c z x y =
+    (λ h. related-by m m _ (Live m live k) (live-decided m live k) (live-bisimulation m live k c z) s t (x, (y, h)), related-agree m k s t)
 
-  pub stable-same : (j s t : ℕ) → k ≤ j → live s ≡ true → live t ≡ true → Agree m k s t ↔ Agree m j s t
-  stable-same j s t l x y = (λ h. bisimilar-agree m Live live-bisimulation j s t (x, (y, h)), agree-falls m k j s t l)
+pub stable-same : Stable-same
+stable-same m live k j s t c z l x y =
+    (λ h. bisimilar-agree (Live m live k) m j s t (live-bisimulation m live k c z) (x, (y, h)), agree-falls m k j s t l)
 
-  pub stable-persists : (j : ℕ) → k ≤ j → Stable m live j
-  stable-persists j l s t x y = (λ h. stable-same (suc j) s t (omega arith) x y .0 (agree-falls m k j s t l h), λ h. h .0)
+pub stable-persists : Stable-persists
+stable-persists m live k j c z l s t x y =
+    (λ h. stable-same m live k (suc j) s t c z (omega arith) x y .0 (agree-falls m k j s t l h), λ h. h .0)

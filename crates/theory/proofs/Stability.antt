@@ -2,16 +2,17 @@
 use Prim.Native.Nat.{ℕ, zero, suc, _-_, _≤_, _<_}
 use native.Mathlib.Omega.{arith}
 use mathlib.Core.Bool.{Bool, true}
-use mathlib.Core.Logic.{_⊎_, inl, inr, ⊎-elim, _↔_}
-use mathlib.Core.Path.{_≡_, refl, sym, ap, subst, _∙_}
+use mathlib.Core.Logic.{⊎-elim, Iff·rfl, Iff·trans}
+use mathlib.Core.Path.{_≡_, refl}
 use lib.Dec.{eqb, ltb}
 use Rattle.std.proofs.shelf.Tests.{eqb-true, eq-eqb, ltb-true, lt-ltb, cases-order}
 use Rattle.lts.specs.Meaning.{Meaning}
 use Rattle.theory.specs.Bisimulation.{Related, Inside}
 use Rattle.theory.specs.Rounds.{Agree, agree, Closed, all-of, Stable, Rounds}
 use Rattle.theory.specs.Classes.{number, size, Numbers, Numbering, Classes}
-use Rattle.theory.proofs.Rounds.{agree-reflexive, agree-symmetric, agree-transitive, agree-decided, related-agree, stable-related}
-use Rattle.theory.proofs.Counting.{number-le, number-none, number-some, number-below, find-least}
+use Rattle.theory.specs.Theorems.{Rounds-exist, Rounds-determined, All-closed, All-counted, Round-count, Stable-count, Class-count, Stable-classes, Count-few, Count-rises, Count-stable}
+use Rattle.theory.proofs.Rounds.{agree-reflexive, agree-symmetric, agree-transitive, agree-decided, stable-related}
+use Rattle.theory.proofs.Counting.{number-le, number-none, number-some, number-below, Least, find-least}
 use Rattle.theory.proofs.Firsts.{Equivalence, first, first-decided, leader, firsts, firsts-rise, firsts-same}
 use Rattle.theory.proofs.Numberings.{count-few, count-rises, count-same, count-determined}
 
@@ -26,6 +27,10 @@ agree-equivalence m k =
 -- how many classes round k has
 classes : Meaning → (ℕ → Bool) → ℕ → ℕ
 classes m live k = firsts live (agree m k) (m .count)
+
+-- rounds k and k + 1 have as many classes
+abbrev level : Meaning → (ℕ → Bool) → ℕ → Bool
+level m live k = eqb (classes m live k) (classes m live (suc k))
 
 module _ (m : Meaning) (live : ℕ → Bool) (closed : Closed m live) where
   finer : (k s t : ℕ) → live s ≡ true → live t ≡ true → agree m (suc k) s t ≡ true → agree m k s t ≡ true
@@ -59,12 +64,8 @@ module _ (m : Meaning) (live : ℕ → Bool) (closed : Closed m live) where
   unfolding classes
   classes-few k = number-le (first live (agree m k)) live (m .count) (λ s _ e. first-decided live (agree m k) s .0 e .0)
 
-  -- rounds k and k + 1 have as many classes
-  abbrev level : ℕ → Bool
-  level k = eqb (classes m live k) (classes m live (suc k))
-
   -- a round that splits a class has one more
-  grows : (n : ℕ) → 1 ≤ size m live → ((j : ℕ) → j < n → level j ≡ true → ⊥) → suc n ≤ classes m live n
+  grows : (n : ℕ) → 1 ≤ size m live → ((j : ℕ) → j < n → level m live j ≡ true → ⊥) → suc n ≤ classes m live n
   grows zero some none = classes-some some
   grows (suc n) some none =
       let before = grows n some (λ j l. none j (omega arith)) in
@@ -72,61 +73,59 @@ module _ (m : Meaning) (live : ℕ → Bool) (closed : Closed m live) where
       let other : classes m live n ≡ classes m live (suc n) → ⊥ = λ e. none n (omega arith) (eq-eqb (classes m live n) (classes m live (suc n)) e) in
       omega arith
 
-  pub rounds-exist : 1 ≤ size m live → (r : ℕ) × Rounds m live r × (r ≤ size m live - 1)
-  rounds-exist some = ⊎-elim found missing (find-least level (size m live))
-    where
-      found : (k : ℕ) × (k < size m live) × ((level k ≡ true) × ((j : ℕ) → j < k → level j ≡ true → ⊥)) → (r : ℕ) × Rounds m live r × (r ≤ size m live - 1)
-      found r =
-          let k = r .0 in
-          let e = eqb-true (classes m live k) (classes m live (suc k)) (r .2 .0) in
-          (k, record { stable = stable-from k (omega arith); least = λ j l s. r .2 .1 j l (eq-eqb (classes m live j) (classes m live (suc j)) (omega (arith, stable-to j s, classes-rise j))) }, omega arith)
+pub rounds-exist : Rounds-exist
+rounds-exist m live closed some = ⊎-elim found missing (find-least (level m live) (size m live))
+  where
+    found : (k : ℕ) × (k < size m live) × Least (level m live) k → (r : ℕ) × Rounds m live r × (r ≤ size m live - 1)
+    found r =
+        let k = r .0 in
+        let e = eqb-true (classes m live k) (classes m live (suc k)) (r .2 .0) in
+        (k, record { stable = stable-from m live closed k (omega arith); least = λ j l s. r .2 .1 j l (eq-eqb (classes m live j) (classes m live (suc j)) (omega (arith, stable-to m live closed j s, classes-rise m live closed j))) }, omega arith)
 
-      missing : ((j : ℕ) → j < size m live → level j ≡ true → ⊥) → (r : ℕ) × Rounds m live r × (r ≤ size m live - 1)
-      missing none =
-          let b : ⊥ = omega (arith, grows (size m live) some none, classes-few (size m live)) in
-          absurd b
+    missing : ((j : ℕ) → j < size m live → level m live j ≡ true → ⊥) → (r : ℕ) × Rounds m live r × (r ≤ size m live - 1)
+    missing none =
+        let b : ⊥ = omega (arith, grows m live closed (size m live) some none, classes-few m live closed (size m live)) in
+        absurd b
 
-pub rounds-determined : (m : Meaning) (live : ℕ → Bool) (r r′ : ℕ) → Rounds m live r → Rounds m live r′ → r ≡ r′
+pub rounds-determined : Rounds-determined
 rounds-determined m live r r′ x y =
     ⊎-elim (λ e. e)
     (λ h. ⊎-elim (λ (l : r < r′). absurd (y .least r l (x .stable))) (λ (l : r′ < r). absurd (x .least r′ l (y .stable))) h)
     (cases-order r r′)
 
-pub all-closed : (m : Meaning) → Inside m → Closed m (all-of m)
+pub all-closed : All-closed
 all-closed m in-m =
     record { inside = λ s e. ltb-true s (m .count) e; stays = λ s a t e i. lt-ltb t (m .count) (in-m s a t (ltb-true s (m .count) e) i) }
 
-pub all-counted : (m : Meaning) → size m (all-of m) ≡ m .count
+pub all-counted : All-counted
 all-counted m = number-below (m .count) (m .count) (omega arith)
 
--- Numbered classes of rounds.
-module _ (m : Meaning) (live : ℕ → Bool) (closed : Closed m live) where
-  pub round-count : (k K L : ℕ) (n o : ℕ → ℕ) → Numbering m live k K n → Numbering m live k L o → K ≡ L
-  round-count k K L n o x y = count-determined live (m .count) (closed .inside) (Agree m k) (Agree m k) (λ s t _ _. (λ h. h, λ h. h)) K L n o x y
+-- Numbered classes.
 
-  pub stable-count : (j k K L : ℕ) (n o : ℕ → ℕ) → Stable m live j → Stable m live k → Numbering m live j K n → Numbering m live k L o → K ≡ L
-  stable-count j k K L n o sj sk x y =
-      count-determined live (m .count) (closed .inside) (Agree m j) (Agree m k) (λ s t a b. (λ h. stable-related m live k closed sk s t a b .1 (stable-related m live j closed sj s t a b .0 h), λ h. stable-related m live j closed sj s t a b .1 (stable-related m live k closed sk s t a b .0 h))) K L n o x y
+pub round-count : Round-count
+round-count m live k K L n o c x y = count-determined live (m .count) (c .inside) (Agree m k) (Agree m k) (λ s t _ _. Iff·rfl) K L n o x y
 
-  pub class-count : (K L : ℕ) (n o : ℕ → ℕ) → Classes m live K n → Classes m live L o → K ≡ L
-  class-count K L n o x y = count-determined live (m .count) (closed .inside) (Related m m) (Related m m) (λ s t _ _. (λ h. h, λ h. h)) K L n o x y
+pub class-count : Class-count
+class-count m live K L n o c x y = count-determined live (m .count) (c .inside) (Related m m) (Related m m) (λ s t _ _. Iff·rfl) K L n o x y
 
-  pub stable-classes : (k K : ℕ) (n : ℕ → ℕ) → Stable m live k → Numbering m live k K n → Classes m live K n
-  stable-classes k K n stable x =
-      record
-        { below = x .below
-        ; occurs = x .occurs
-        ; equal = λ s t a b.
-            let r = stable-related m live k closed stable s t a b in
-            (λ e. r .0 (x .equal s t a b .0 e), λ h. x .equal s t a b .1 (r .1 h))
-        }
+pub stable-classes : Stable-classes
+stable-classes m live k K n c z x =
+    record
+      { below = x .below
+      ; occurs = x .occurs
+      ; equal = λ s t a b. Iff·trans (x .equal s t a b) (stable-related m live k s t c z a b)
+      }
 
-  pub round-few : (k K : ℕ) (n : ℕ → ℕ) → Numbering m live k K n → K ≤ size m live
-  round-few k K n x = count-few live (m .count) (closed .inside) (Agree m k) K n x
+pub stable-count : Stable-count
+stable-count m live j k K L n o c zj zk x y = class-count m live K L n o c (stable-classes m live j K n c zj x) (stable-classes m live k L o c zk y)
 
-  module _ (k K L : ℕ) (n o : ℕ → ℕ) (x : Numbering m live k K n) (y : Numbering m live (suc k) L o) where
-    pub round-rises : K ≤ L
-    round-rises = count-rises live (m .count) (closed .inside) (Agree m k) (Agree m (suc k)) (λ s t _ _ h. h .0) K L n o x y
+pub round-few : Count-few
+round-few m live k K n c x = count-few live (m .count) (c .inside) (Agree m k) K n x
 
-    pub round-stable : L ≤ K → Stable m live k
-    round-stable l s t a b = (count-same live (m .count) (closed .inside) (Agree m k) (Agree m (suc k)) (λ s t _ _ h. h .0) K L n o x y l s t a b, λ h. h .0)
+pub round-rises : Count-rises
+round-rises m live k K L n o c x y =
+    count-rises live (m .count) (c .inside) (Agree m k) (Agree m (suc k)) (λ s t _ _ h. h .0) K L n o x y
+
+pub round-stable : Count-stable
+round-stable m live k K n o c x y s t a b =
+    (count-same live (m .count) (c .inside) (Agree m k) (Agree m (suc k)) (λ s t _ _ h. h .0) K K n o x y (omega arith) s t a b, λ h. h .0)
