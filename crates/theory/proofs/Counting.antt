@@ -1,11 +1,11 @@
 -- How many numbers are in a set, and the least that is.
-use Prim.Native.Nat.{ℕ, zero, suc, _+_, _≤_, _<_}
+use Prim.Native.Nat.{ℕ, zero, suc, _≤_, _<_}
 use native.Mathlib.Omega.{arith}
 use mathlib.Core.Bool.{Bool, true, false, cond}
 use mathlib.Core.Logic.{_⊎_, inl, inr, ⊎-elim}
-use mathlib.Core.Path.{_≡_, refl, sym, ap, subst, _∙_}
+use mathlib.Core.Path.{_≡_, refl, sym, ap, _∙_}
 use lib.Dec.{ltb}
-use Rattle.std.proofs.shelf.Tests.{cases-lt, cases-eq, cases-bool, both-ways, false≢true, lt-ltb}
+use Rattle.std.proofs.shelf.Tests.{cases-lt, cases-order, cases-bool, both-ways, lt-ltb}
 use Rattle.theory.specs.Classes.{number}
 
 pub bool-same : (x y : Bool) → (x ≡ true → y ≡ true) → (y ≡ true → x ≡ true) → x ≡ y
@@ -60,19 +60,39 @@ number-more p q i (suc n) l x y f =
     ⊎-elim
     (λ (k : i < n). let here : bit (p n) ≡ bit (q n) = ap bit (f n (λ e. omega arith)) in omega (arith, number-more p q i n k x y f))
     (λ (k : n ≤ i).
-      let a : i ≡ n = omega arith in
-      let c : bit (p n) ≡ 0 = ap bit (rw a at x) in
-      let d : bit (q n) ≡ 1 = ap bit (rw a at y) in
-      omega (arith, number-same p q n (λ s h. f s (λ e. omega arith))))
+    let a : i ≡ n = omega arith in
+    let c : bit (p n) ≡ 0 = ap bit (rw a at x) in
+    let d : bit (q n) ≡ 1 = ap bit (rw a at y) in
+    omega (arith, number-same p q n (λ s h. f s (λ e. omega arith))))
     (cases-lt i n)
 
-pub number-some : (p : ℕ → Bool) (n s : ℕ) → s < n → p s ≡ true → 1 ≤ number p n
-number-some p zero s l e = let b : ⊥ = omega arith in absurd b
-number-some p (suc n) s l e =
+pub number-rises : (p : ℕ → Bool) (i j : ℕ) → i ≤ j → number p i ≤ number p j
+number-rises p i zero l = let e : i ≡ 0 = omega arith in rw e (omega arith)
+number-rises p i (suc j) l =
     ⊎-elim
-    (λ (k : s < n). omega (arith, number-some p n s k e))
-    (λ (k : n ≤ s). let a : s ≡ n = omega arith in let d : bit (p n) ≡ 1 = ap bit (rw a at e) in omega arith)
-    (cases-lt s n)
+    (λ (k : i < suc j). omega (arith, number-rises p i j (omega arith)))
+    (λ (k : suc j ≤ i). let e : i ≡ suc j = omega arith in rw e (omega arith))
+    (cases-lt i (suc j))
+
+pub number-lower : (p : ℕ → Bool) (i n : ℕ) → i < n → p i ≡ true → number p i < number p n
+number-lower p i n l e = let here : bit (p i) ≡ 1 = ap bit e in omega (arith, number-rises p (suc i) n l)
+
+-- the members of the set are counted apart
+pub number-apart : (p : ℕ → Bool) (i j : ℕ) → p i ≡ true → p j ≡ true → number p i ≡ number p j → i ≡ j
+number-apart p i j x y e =
+    ⊎-elim (λ h. h) (λ h. ⊎-elim (λ (l : i < j). let b : ⊥ = omega (arith, number-lower p i j l x) in absurd b) (λ (l : j < i). let b : ⊥ = omega (arith, number-lower p j i l y) in absurd b) h) (cases-order i j)
+
+-- and each count below the whole is that of a member
+pub number-onto : (p : ℕ → Bool) (n c : ℕ) → c < number p n → (i : ℕ) × (i < n) × (p i ≡ true) × (number p i ≡ c)
+number-onto p zero c l = let b : ⊥ = omega arith in absurd b
+number-onto p (suc n) c l =
+    ⊎-elim
+    (λ (k : c < number p n). let r = number-onto p n c k in (r .0, omega arith, r .2, r .3))
+    (λ (k : number p n ≤ c).
+    let e : p n ≡ true = bit-back (p n) true (omega arith) refl in
+    let here : bit (p n) ≡ 1 = ap bit e in
+    (n, omega arith, e, omega arith))
+    (cases-lt c (number p n))
 
 pub number-below : (n k : ℕ) → k ≤ n → number (λ s. ltb s n) k ≡ k
 number-below n zero l = refl
@@ -93,5 +113,13 @@ find-least p (suc n) = ⊎-elim (λ r. inl (r .0, omega arith, r .2)) (λ none. 
         (λ (k : n ≤ j). let a : j ≡ n = omega arith in both-ways (p n) e (rw a at h))
         (cases-lt j n)
 
-pub least-of : (p : ℕ → Bool) (n : ℕ) → p n ≡ true → (k : ℕ) × (k ≤ n) × Least p k
-least-of p n e = ⊎-elim (λ r. (r .0, omega arith, r .2)) (λ none. absurd (none n (omega arith) e)) (find-least p (suc n))
+-- the least of the set up to n, where there is one
+abbrev pub least : (ℕ → Bool) → ℕ → ℕ
+least p n = ⊎-elim (λ r. r .0) (λ _. 0) (find-least p (suc n))
+
+pub least-of : (p : ℕ → Bool) (n : ℕ) → p n ≡ true → Least p (least p n)
+least-of p n e = here (find-least p (suc n))
+  where
+    here : (x : ((k : ℕ) × (k < suc n) × Least p k) ⊎ ((j : ℕ) → j < suc n → p j ≡ true → ⊥)) → Least p (⊎-elim (λ r. r .0) (λ _. 0) x)
+    here (inl r) = r .2
+    here (inr none) = absurd (none n (omega arith) e)

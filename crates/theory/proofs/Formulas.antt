@@ -1,11 +1,11 @@
 -- Formulas against bisimulations and rounds.
 use Prim.Native.Nat.{ℕ, zero, suc, _≤_, _<_}
 use native.Mathlib.Omega.{arith}
-use mathlib.Core.Logic.{_⊎_, inl, inr, ⊎-elim, _↔_}
-use mathlib.Core.Path.{_≡_, sym, _∙_}
+use mathlib.Core.Logic.{inl, inr, ⊎-elim, _↔_}
+use mathlib.Core.Path.{sym, _∙_}
 use Rattle.std.proofs.shelf.Tests.{cases-lt}
 use Rattle.lts.specs.Meaning.{Meaning}
-use Rattle.theory.specs.Bisimulation.{turned, BisimulationOf, Passing, Related}
+use Rattle.theory.specs.Bisimulation.{turned, BisimulationOf, Passing}
 use Rattle.theory.specs.Rounds.{Agree}
 use Rattle.theory.specs.Formulas.{Formula, T, E, N, A, D, Holds, depth, Separates}
 use Rattle.theory.specs.Theorems.{Bisimilar-formulas, Related-formulas, Separated-unrelated, Agree-formulas, Separated-disagree, Separated-depth}

@@ -2,20 +2,19 @@
 use Prim.Native.Nat.{ℕ, _+_, _-_, _<_, _≤_}
 use native.Mathlib.Nat.{zero-add}
 use native.Mathlib.Omega.{arith}
-use mathlib.Core.Bool.{Bool, cond, _&&_}
+use mathlib.Core.Bool.{_&&_}
 use mathlib.Core.List.{List, [], _∷_, map}
-use mathlib.Core.Logic.{⊎-elim, _↔_}
+use mathlib.Core.Logic.{⊎-elim}
 use mathlib.Core.Path.{_≡_, refl, sym, ap, ap₂, subst, _∙_}
 use lib.Dec.{ltb, eqb}
 use Rattle.std.proofs.shelf.Ways.{decides-eqb, decides-ltb, decides-and}
-use Rattle.std.proofs.shelf.Tests.{lt-ltb, le-ltb, cases-lt}
+use Rattle.std.proofs.shelf.Tests.{cases-lt}
 use Rattle.lts.specs.Meaning.{Meaning, In}
 use Rattle.lts.specs.Laws.Member.{in-map, from-map}
-use Rattle.theory.specs.Bisimulation.{turned, BisimulationOf, Related, Inside}
-use Rattle.theory.specs.Formulas.{Formula, Holds}
+use Rattle.theory.specs.Bisimulation.{BisimulationOf, Related, Inside}
 use Rattle.theory.specs.Joins.{Joins, raised}
 use Rattle.theory.specs.Theorems.{Joined-related, Joined-left, Joined-right}
-use Rattle.theory.proofs.Relations.{Decided, related-by, related-symmetric, related-transitive, turn, Through, compose}
+use Rattle.theory.proofs.Relations.{Decided, related-by, related-symmetric, related-transitive}
 use Rattle.theory.proofs.Formulas.{related-formulas}
 
 -- state s, below n, stands at place k + s
@@ -32,16 +31,16 @@ module _ (p m : Meaning) (k : ℕ) (in-p : Inside p) (ends : (s : ℕ) → s < p
 
   placed-bisimulation : BisimulationOf p m (Placed (p .count) k)
   placed-bisimulation =
-      record
-        { alike = λ s x h. sym (ends s (h .0)) ∙ ap (m .ends) (h .1)
-        ; forth = λ s x h a y i.
-            (k + y, subst (In (a, k + y)) (sym (steps-at s x h)) (in-map (raised k) (a, y) (p .steps s) i), (in-p s a y (h .0) i, refl))
-        ; back = λ s x h a y i.
+      record {
+        alike = λ s x h. sym (ends s (h .0)) ∙ ap (m .ends) (h .1);
+        forth = λ s x h a y i.
+            (k + y, subst (In (a, k + y)) (sym (steps-at s x h)) (in-map (raised k) (a, y) (p .steps s) i), (in-p s a y (h .0) i, refl));
+        back = λ s x h a y i.
             let r = from-map (raised k) (a, y) (p .steps s) (subst (In (a, y)) (steps-at s x h) i) in
             let e : r .0 ≡ (a, r .0 .1) = ap (λ (v : ℕ × ℕ). (v .0, r .0 .1)) (sym (r .2)) in
             let j : In (a, r .0 .1) (p .steps s) = subst (λ (v : ℕ × ℕ). In v (p .steps s)) e (r .1) in
-            (r .0 .1, j, (in-p s a (r .0 .1) (h .0) j, ap (λ (v : ℕ × ℕ). v .1) (sym (r .2))))
-        }
+            (r .0 .1, j, (in-p s a (r .0 .1) (h .0) j, ap (λ (v : ℕ × ℕ). v .1) (sym (r .2))));
+      }
 
 placed-related : (n k : ℕ) (p m : Meaning) → BisimulationOf p m (Placed n k) → (s : ℕ) → s < n → Related p m s (k + s)
 placed-related n k p m b s l = related-by p m _ (Placed n k) (placed-decided n k) b s (k + s) (l, refl)
@@ -100,6 +99,7 @@ joined-related p q m s t j in-p in-q ls lt =
     let left = left-related p q m j in-p s ls in
     let right = right-related p q m j in-q t lt in
     let in-m = joined-inside p q m j in-p in-q in
-    let n = j .counts in
-    ( λ r. related-transitive m p m s s (p .count + t) in-p ls (related-symmetric p m s s left) (related-transitive p q m s t (p .count + t) in-q lt r right)
-    , λ r. related-transitive p m q s s t in-m (omega arith) left (related-transitive m m q s (p .count + t) t in-m (omega arith) r (related-symmetric q m t (p .count + t) right)) )
+    let n = j .counts in (
+      λ r. related-transitive m p m s s (p .count + t) in-p ls (related-symmetric p m s s left) (related-transitive p q m s t (p .count + t) in-q lt r right),
+      λ r. related-transitive p m q s s t in-m (omega arith) left (related-transitive m m q s (p .count + t) t in-m (omega arith) r (related-symmetric q m t (p .count + t) right)),
+    )

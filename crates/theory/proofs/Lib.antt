@@ -6,4 +6,4 @@ pub mod Counting
 pub mod Firsts
 pub mod Numberings
 pub mod Stability
-pub mod Anykind
+pub mod AnyRelation

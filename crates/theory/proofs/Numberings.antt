@@ -8,7 +8,7 @@ use lib.Dec.{eqb, ltb}
 use Rattle.std.proofs.shelf.Tests.{and-parts, and-from, and-right, eqb-true, eq-eqb, ltb-true, lt-ltb, le-ltb}
 use Rattle.theory.specs.Classes.{number, Numbers}
 use Rattle.theory.proofs.Counting.{bool-same, number-le, number-same, number-none, number-more}
-use Rattle.theory.proofs.Firsts.{Equivalence, first, First, first-decided, leader, leader-one, firsts, firsts-rise, firsts-same}
+use Rattle.theory.proofs.Firsts.{Equivalence, first, First, first-decided, lead, leader, leader-one, firsts, firsts-rise, firsts-same}
 
 -- equal numbers
 abbrev pub by : (ℕ → ℕ) → ℕ → ℕ → Bool
@@ -16,11 +16,11 @@ by n s t = eqb (n s) (n t)
 
 pub by-equivalence : (n : ℕ → ℕ) → Equivalence (by n)
 by-equivalence n =
-    record
-      { reflexive = λ s. eq-eqb (n s) (n s) refl
-      ; symmetric = λ s t e. eq-eqb (n t) (n s) (sym (eqb-true (n s) (n t) e))
-      ; transitive = λ s t u d e. eq-eqb (n s) (n u) (eqb-true (n s) (n t) d ∙ eqb-true (n t) (n u) e)
-      }
+    record {
+      reflexive = λ s. eq-eqb (n s) (n s) refl;
+      symmetric = λ s t e. eq-eqb (n t) (n s) (sym (eqb-true (n s) (n t) e));
+      transitive = λ s t u d e. eq-eqb (n s) (n u) (eqb-true (n s) (n t) d ∙ eqb-true (n t) (n u) e);
+    }
 
 -- the first members with a number below c
 abbrev part : (ℕ → Bool) → (ℕ → ℕ) → ℕ → ℕ → Bool
@@ -58,8 +58,9 @@ module _ (live : ℕ → Bool) (size : ℕ) (inside : (s : ℕ) → live s ≡ t
         number-none (part live n 0) size (λ s _ e. omega (arith, ltb-true (n s) 0 (and-parts (first live (by n) s) (ltb (n s) 0) e .1)))
     part-count (suc c) l =
         let o = numbers .occurs c l in
-        let f = leader live (by n) (by-equivalence n) (o .0) (o .1) in
-        part-more n c (f .0) (f .1) (eqb-true (n (f .0)) (n (o .0)) (f .2) ∙ o .2) ∙ ap suc (part-count c (omega arith))
+        let f = lead live (by n) (o .0) in
+        let is = leader live (by n) (by-equivalence n) (o .0) (o .1) in
+        part-more n c f (is .0) (eqb-true (n f) (n (o .0)) (is .1) ∙ o .2) ∙ ap suc (part-count c (omega arith))
 
     -- there are as many classes as first members
     pub count-firsts : firsts live (by n) size ≡ K

@@ -1,14 +1,13 @@
 -- Bisimulations turned round and composed, and the tests that give them.
 use Prim.Native.Nat.{ℕ, zero, suc, _<_}
 use mathlib.Core.Bool.{Bool, true, false, _&&_, _||_}
-use mathlib.Core.Logic.{_⊎_, inl, inr}
 use mathlib.Core.Path.{_≡_, refl, sym, ap, subst, _∙_}
 use lib.Dec.{eqb}
 use Rattle.std.specs.Orderings.{Decides}
 use Rattle.std.proofs.shelf.Ways.{decides-eqb, decides-and, decides-below-or}
 use Rattle.lts.specs.Meaning.{Meaning, In}
-use Rattle.theory.specs.Bisimulation.{Answered, turned, BisimulationOf, Passing, Bisimulation, Related, Inside}
-use Rattle.theory.specs.Theorems.{Related-reflexive, Related-symmetric, Related-transitive}
+use Rattle.theory.specs.Bisimulation.{turned, BisimulationOf, Passing, Bisimulation, Related, Inside}
+use Rattle.theory.specs.Theorems.{Related-reflexive, Related-symmetric, Related-transitive, Lawful-inside}
 
 -- the test R decides the relation S
 abbrev pub Decided : (ℕ → ℕ → Bool) → (ℕ → ℕ → Type 0) → Type 0
@@ -42,17 +41,17 @@ Through n R S s u = (t : ℕ) × (t < n) × (R s t × S t u)
 
 pub compose : (p q r : Meaning) (R S : ℕ → ℕ → Type 0) → Inside q → BisimulationOf p q R → BisimulationOf q r S → BisimulationOf p r (Through (q .count) R S)
 compose p q r R S in-q b c =
-    record
-      { alike = λ s u h. b .alike s (h .0) (h .2 .0) ∙ c .alike (h .0) u (h .2 .1)
-      ; forth = λ s u h a x i.
+    record {
+      alike = λ s u h. b .alike s (h .0) (h .2 .0) ∙ c .alike (h .0) u (h .2 .1);
+      forth = λ s u h a x i.
           let y = b .forth s (h .0) (h .2 .0) a x i in
           let z = c .forth (h .0) u (h .2 .1) a (y .0) (y .1) in
-          (z .0, z .1, (y .0, in-q (h .0) a (y .0) (h .1) (y .1), (y .2, z .2)))
-      ; back = λ s u h a x i.
+          (z .0, z .1, (y .0, in-q (h .0) a (y .0) (h .1) (y .1), (y .2, z .2)));
+      back = λ s u h a x i.
           let y = c .back (h .0) u (h .2 .1) a x i in
           let z = b .back s (h .0) (h .2 .0) a (y .0) (y .1) in
-          (z .0, z .1, (y .0, in-q (h .0) a (y .0) (h .1) (y .1), (z .2, y .2)))
-      }
+          (z .0, z .1, (y .0, in-q (h .0) a (y .0) (h .1) (y .1), (z .2, y .2)));
+    }
 
 -- some number below n passes the test
 abbrev pub some-below : (ℕ → Bool) → ℕ → Bool
@@ -72,3 +71,6 @@ decides-through n R S s u =
 pub related-transitive : Related-transitive
 related-transitive p q r s t u in-q l x y =
     related-by p r _ (Through (q .count) (Passing (x .0)) (Passing (y .0))) (decides-through (q .count) (x .0) (y .0)) (compose p q r (Passing (x .0)) (Passing (y .0)) in-q (x .1) (y .1)) s u (t, l, (x .2, y .2))
+
+pub lawful-inside : Lawful-inside
+lawful-inside most m h s a t _ i = h .aims s a t i

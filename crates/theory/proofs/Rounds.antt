@@ -1,16 +1,15 @@
 -- The rounds: a falling chain of decidable equivalences.
 use Prim.Native.Nat.{ℕ, zero, suc, _≤_, _<_}
 use native.Mathlib.Omega.{arith}
-use mathlib.Core.Bool.{Bool, true, false, Bool·beq, _&&_, _||_}
+use mathlib.Core.Bool.{Bool, true, false, Bool·beq, _&&_}
 use mathlib.Core.List.{List, [], _∷_}
-use mathlib.Core.Logic.{_⊎_, inl, inr, ⊎-elim, _↔_}
+use mathlib.Core.Logic.{_⊎_, inl, inr, ⊎-elim}
 use mathlib.Core.Path.{_≡_, refl, sym, ap, subst, _∙_}
-use lib.Dec.{eqb}
 use Rattle.std.specs.Orderings.{Decides}
 use Rattle.std.proofs.shelf.Ways.{decides-eqb, decides-and, decides-or, decides-like}
 use Rattle.std.proofs.shelf.Tests.{cases-lt, false≢true}
 use Rattle.lts.specs.Meaning.{Meaning, In}
-use Rattle.theory.specs.Bisimulation.{Answered, turned, BisimulationOf, Passing, Bisimulation, Related, Inside}
+use Rattle.theory.specs.Bisimulation.{Answered, BisimulationOf, Passing}
 use Rattle.theory.specs.Rounds.{Agree, meets, answered, agree, Closed, Stable}
 use Rattle.theory.specs.Theorems.{Agree-falls, Agree-reflexive, Agree-symmetric, Agree-transitive, Agree-decided, Bisimilar-agree, Related-agree, Stable-bisimulation, Stable-related, Stable-same, Stable-persists}
 use Rattle.theory.proofs.Relations.{Decided, by-test, related-by, decides-self}
@@ -110,15 +109,15 @@ live-decided m live k s t = decides-and _ _ (decides-self (live s)) (decides-and
 
 live-bisimulation : (m : Meaning) (live : ℕ → Bool) (k : ℕ) → Closed m live → Stable m live k → BisimulationOf m m (Live m live k)
 live-bisimulation m live k closed stable =
-    record
-      { alike = λ s t h. agree-falls m 0 k s t (omega arith) (h .1 .1)
-      ; forth = λ s t h a x i.
+    record {
+      alike = λ s t h. agree-falls m 0 k s t (omega arith) (h .1 .1);
+      forth = λ s t h a x i.
           let r = stable s t (h .0) (h .1 .0) .0 (h .1 .1) .1 a x i in
-          (r .0, r .1, (closed .stays s a x (h .0) i, (closed .stays t a (r .0) (h .1 .0) (r .1), r .2)))
-      ; back = λ s t h a x i.
+          (r .0, r .1, (closed .stays s a x (h .0) i, (closed .stays t a (r .0) (h .1 .0) (r .1), r .2)));
+      back = λ s t h a x i.
           let r = stable s t (h .0) (h .1 .0) .0 (h .1 .1) .2 a x i in
-          (r .0, r .1, (closed .stays s a (r .0) (h .0) (r .1), (closed .stays t a x (h .1 .0) i, agree-symmetric m k x (r .0) (r .2))))
-      }
+          (r .0, r .1, (closed .stays s a (r .0) (h .0) (r .1), (closed .stays t a x (h .1 .0) i, agree-symmetric m k x (r .0) (r .2))));
+    }
 
 pub stable-bisimulation : Stable-bisimulation
 stable-bisimulation m live k c z = by-test m m _ (Live m live k) (live-decided m live k) (live-bisimulation m live k c z)

@@ -4,7 +4,7 @@ use mathlib.Core.Bool.{Bool, true, _&&_}
 use mathlib.Core.Logic.{_↔_}
 use mathlib.Core.Path.{_≡_}
 use Rattle.std.specs.Orderings.{Decides}
-use Rattle.lts.specs.Meaning.{Meaning}
+use Rattle.lts.specs.Meaning.{Meaning, Lawful}
 use Rattle.theory.specs.Bisimulation.{BisimulationOf, Bisimulation, Related, Inside}
 use Rattle.theory.specs.Rounds.{Agree, agree, Closed, all-of, Stable, Rounds}
 use Rattle.theory.specs.Formulas.{Formula, Holds, depth, Separates}
@@ -78,6 +78,10 @@ Rounds-exist = (m : Meaning) (live : ℕ → Bool) → Closed m live → 1 ≤ s
 abbrev pub Rounds-determined : Type 0
 Rounds-determined = (m : Meaning) (live : ℕ → Bool) (r r′ : ℕ) → Rounds m live r → Rounds m live r′ → r ≡ r′
 
+-- the steps of a lawful procedure lead to its states
+abbrev pub Lawful-inside : Type 0
+Lawful-inside = (most : ℕ) (m : Meaning) → Lawful most m → Inside m
+
 -- the set of all states: no step leaves it, and it has as many states as the procedure
 abbrev pub All-closed : Type 0
 All-closed = (m : Meaning) → Inside m → Closed m (all-of m)
@@ -123,6 +127,13 @@ abbrev pub Separated-depth : Type 0
 Separated-depth = (m : Meaning) (d s t : ℕ) (f : Formula) → ((k : ℕ) → k < d → Agree m k s t) → Separates m m s t f → d ≤ depth f
 
 -- Classes
+
+-- the classes can be numbered, at each round and in the end
+abbrev pub Numbering-exists : Type 0
+Numbering-exists = (m : Meaning) (live : ℕ → Bool) (k : ℕ) → Closed m live → (K : ℕ) × (n : ℕ → ℕ) × Numbering m live k K n
+
+abbrev pub Classes-exist : Type 0
+Classes-exist = (m : Meaning) (live : ℕ → Bool) → Closed m live → 1 ≤ size m live → (K : ℕ) × (n : ℕ → ℕ) × Classes m live K n
 
 -- the number of classes is determined, at one round, between stable rounds, and for the classes themselves
 abbrev pub Round-count : Type 0

@@ -1,6 +1,6 @@
 // The rounds, and the round from which on nothing changes.
 ghost use mathlib.Core.Path.{_≡_};
-ghost use Rattle.theory.specs.Theorems.{Agree-falls, Agree-reflexive, Agree-symmetric, Agree-transitive, Agree-decided, Bisimilar-agree, Related-agree, Stable-bisimulation, Stable-related, Stable-persists, Stable-same, Rounds-exist, Rounds-determined, All-closed, All-counted};
+ghost use Rattle.theory.specs.Theorems.{Agree-falls, Agree-reflexive, Agree-symmetric, Agree-transitive, Agree-decided, Bisimilar-agree, Related-agree, Stable-bisimulation, Stable-related, Stable-persists, Stable-same, Rounds-exist, Rounds-determined, Lawful-inside, All-closed, All-counted};
 use crate::bisimilarity::Relation;
 
 pub fn agreement_is_a_falling_decidable_equivalence() -> u8
@@ -56,6 +56,7 @@ pub fn least_stable_round_exists() -> u8
 
 pub fn all_states_are_a_closed_set() -> u8
     ensures value { λ r. ⌜ r ≡ 0 ⌝ }
+    ensures lawful { λ _. ⌜ Lawful-inside ⌝ }
     ensures closed { λ _. ⌜ All-closed ⌝ }
     ensures counted { λ _. ⌜ All-counted ⌝ }
 {

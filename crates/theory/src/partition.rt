@@ -1,6 +1,14 @@
 // The classes of a round and the classes of all, counted.
 ghost use mathlib.Core.Path.{_≡_};
-ghost use Rattle.theory.specs.Theorems.{Round-count, Stable-count, Class-count, Stable-classes, Count-few, Count-rises, Count-stable};
+ghost use Rattle.theory.specs.Theorems.{Numbering-exists, Classes-exist, Round-count, Stable-count, Class-count, Stable-classes, Count-few, Count-rises, Count-stable};
+
+pub fn classes_can_be_numbered() -> u8
+    ensures value { λ r. ⌜ r ≡ 0 ⌝ }
+    ensures round { λ _. ⌜ Numbering-exists ⌝ }
+    ensures all { λ _. ⌜ Classes-exist ⌝ }
+{
+    0
+}
 
 pub fn class_count_is_determined() -> u8
     ensures value { λ r. ⌜ r ≡ 0 ⌝ }

@@ -1,5 +1,5 @@
 use mathlib.Core.Path.{refl}
-use Rattle.theory.proofs.Anykind.{any-related, unrelated}
+use Rattle.theory.proofs.AnyRelation.{any-related, unrelated}
 use Rattle.theory.proofs.bisimilarity.tests_relate_all_that_is_related.Needs as need
 
 pub returns : need.returns

@@ -1,16 +1,15 @@
 -- What a bisimulation of any kind relates, one that is given by a test relates too.
-use Prim.Native.Nat.{ℕ, _+_, _-_, _≤_, _<_}
+use Prim.Native.Nat.{ℕ, _+_, _-_, _<_}
 use native.Mathlib.Nat.{zero-add}
 use native.Mathlib.Omega.{arith}
 use mathlib.Core.Bool.{cond}
 use mathlib.Core.List.{map}
-use mathlib.Core.Path.{_≡_, refl, sym, ap, subst, _∙_}
+use mathlib.Core.Path.{_≡_, refl}
 use lib.Dec.{ltb}
 use Rattle.std.proofs.shelf.Tests.{lt-ltb, le-ltb}
 use Rattle.lts.specs.Meaning.{Meaning}
 use Rattle.theory.specs.Bisimulation.{turned, BisimulationOf, Related, Inside}
-use Rattle.theory.specs.Rounds.{Agree, Closed, all-of}
-use Rattle.theory.specs.Classes.{size}
+use Rattle.theory.specs.Rounds.{Agree, all-of}
 use Rattle.theory.specs.Joins.{Joins, raised}
 use Rattle.theory.specs.Theorems.{Any-related, Unrelated}
 use Rattle.theory.proofs.Relations.{turn, Through, compose}
@@ -25,13 +24,13 @@ beside p q =
 
 beside-joins : (p q : Meaning) → Joins p q (beside p q)
 beside-joins p q =
-    record
-      { counts = refl
-      ; left-ends = λ s l. rw (lt-ltb s (p .count) l)
-      ; left-steps = λ s l. rw (lt-ltb s (p .count) l)
-      ; right-ends = λ t _. let e : p .count + t - p .count ≡ t = omega arith in rw (le-ltb (p .count + t) (p .count) (omega arith), e)
-      ; right-steps = λ t _. let e : p .count + t - p .count ≡ t = omega arith in rw (le-ltb (p .count + t) (p .count) (omega arith), e)
-      }
+    record {
+      counts = refl;
+      left-ends = λ s l. rw (lt-ltb s (p .count) l);
+      left-steps = λ s l. rw (lt-ltb s (p .count) l);
+      right-ends = λ t _. let e : p .count + t - p .count ≡ t = omega arith in rw (le-ltb (p .count + t) (p .count) (omega arith), e);
+      right-steps = λ t _. let e : p .count + t - p .count ≡ t = omega arith in rw (le-ltb (p .count + t) (p .count) (omega arith), e);
+    }
 
 module _ (R : ℕ → ℕ → Type 0) (p q m : Meaning) (j : Joins p q m) (in-p : Inside p) (in-q : Inside q) (b : BisimulationOf p q R) (s t : ℕ) (ls : s < p .count) (lt : t < q .count) (r : R s t) where
   -- R between the states as they stand in the whole
