@@ -32,6 +32,11 @@ not-alike : (p q : Meaning) (s t : ℕ) (f : Formula) → Separates p q s t f �
 not-alike p q s t f (inl h) same = h .1 (same .0 (h .0))
 not-alike p q s t f (inr h) same = h .1 (same .1 (h .0))
 
+-- it separates other states too where it holds as at these
+pub separates-like : (f : Formula) (p q p′ q′ : Meaning) (s t s′ t′ : ℕ) → Holds p s f ↔ Holds p′ s′ f → Holds q t f ↔ Holds q′ t′ f → Separates p q s t f → Separates p′ q′ s′ t′ f
+separates-like f p q p′ q′ s t s′ t′ x y (inl h) = inl (x .0 (h .0), λ z. h .1 (y .1 z))
+separates-like f p q p′ q′ s t s′ t′ x y (inr h) = inr (y .0 (h .0), λ z. h .1 (x .1 z))
+
 pub separated-unrelated : (R : ℕ → ℕ → Type 0) → Separated-unrelated R
 separated-unrelated R p q s t f d b r = not-alike p q s t f d (bisimilar-formulas R p q s t b r f)
 

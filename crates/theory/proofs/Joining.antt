@@ -4,7 +4,7 @@ use native.Mathlib.Nat.{zero-add}
 use native.Mathlib.Omega.{arith}
 use mathlib.Core.Bool.{_&&_}
 use mathlib.Core.List.{List, [], _∷_, map}
-use mathlib.Core.Logic.{⊎-elim}
+use mathlib.Core.Logic.{⊎-elim, Iff·symm}
 use mathlib.Core.Path.{_≡_, refl, sym, ap, ap₂, subst, _∙_}
 use lib.Dec.{ltb, eqb}
 use Rattle.std.proofs.shelf.Ways.{decides-eqb, decides-ltb, decides-and}
@@ -13,9 +13,9 @@ use Rattle.lts.specs.Meaning.{Meaning, In}
 use Rattle.lts.specs.Laws.Member.{in-map, from-map}
 use Rattle.theory.specs.Bisimulation.{BisimulationOf, Related, Inside}
 use Rattle.theory.specs.Joins.{Joins, raised}
-use Rattle.theory.specs.Theorems.{Joined-related, Joined-left, Joined-right}
+use Rattle.theory.specs.Theorems.{Joined-related, Joined-left, Joined-right, Joined-separates}
 use Rattle.theory.proofs.Relations.{Decided, related-by, related-symmetric, related-transitive}
-use Rattle.theory.proofs.Formulas.{related-formulas}
+use Rattle.theory.proofs.Formulas.{related-formulas, separates-like}
 
 -- state s, below n, stands at place k + s
 abbrev pub Placed : ℕ → ℕ → ℕ → ℕ → Type 0
@@ -73,6 +73,12 @@ joined-left p q m s j in-p l = related-formulas p m s s (left-related p q m j in
 
 pub joined-right : Joined-right
 joined-right p q m t j in-q l = related-formulas q m t (p .count + t) (right-related p q m j in-q t l)
+
+pub joined-separates : Joined-separates
+joined-separates p q m s t j in-p in-q ls lt f =
+    let x = joined-left p q m s j in-p ls f in
+    let y = joined-right p q m t j in-q lt f in
+    (separates-like f p q m m s t s (p .count + t) x y, separates-like f m m p q s (p .count + t) s t (Iff·symm x) (Iff·symm y))
 
 -- a step of the whole leads to a state of the whole
 pub joined-inside : (p q m : Meaning) → Joins p q m → Inside p → Inside q → Inside m

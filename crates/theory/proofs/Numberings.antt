@@ -64,8 +64,13 @@ module _ (live : ℕ → Bool) (size : ℕ) (inside : (s : ℕ) → live s ≡ t
 
     -- there are as many classes as first members
     pub count-firsts : firsts live (by n) size ≡ K
-    count-firsts =
-        number-same (first live (by n)) (part live n K) size (λ s _. bool-same (first live (by n) s) (part live n K s) (λ e. and-from (first live (by n) s) (ltb (n s) K) e (lt-ltb (n s) K (numbers .below s (first-decided live (by n) s .0 e .0)))) (λ e. and-parts (first live (by n) s) (ltb (n s) K) e .0)) ∙ part-count K (omega arith)
+    count-firsts = number-same (first live (by n)) (part live n K) size (λ s _. whole s) ∙ part-count K (omega arith)
+      where
+        whole : (s : ℕ) → first live (by n) s ≡ part live n K s
+        whole s =
+            let f = first live (by n) s in
+            let low : f ≡ true → n s < K = λ e. numbers .below s (first-decided live (by n) s .0 e .0) in
+            bool-same f (part live n K s) (λ e. and-from f (ltb (n s) K) e (lt-ltb (n s) K (low e))) (λ e. and-parts f (ltb (n s) K) e .0)
 
     -- and no more than members
     pub count-few : K ≤ number live size

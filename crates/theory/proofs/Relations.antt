@@ -16,15 +16,23 @@ Decided R S = (s t : ℕ) → Decides (R s t) (S s t)
 -- a bisimulation that a test decides is given by that test
 pub by-test : (p q : Meaning) (R : ℕ → ℕ → Bool) (S : ℕ → ℕ → Type 0) → Decided R S → BisimulationOf p q S → Bisimulation p q R
 by-test p q R S d b =
-    record { alike = λ s t h. b .alike s t (d s t .0 h); forth = λ s t h a x i. let r = b .forth s t (d s t .0 h) a x i in (r .0, r .1, d x (r .0) .1 (r .2)); back = λ s t h a x i. let r = b .back s t (d s t .0 h) a x i in (r .0, r .1, d (r .0) x .1 (r .2)) }
+    record {
+      alike = λ s t h. b .alike s t (d s t .0 h);
+      forth = λ s t h a x i. let r = b .forth s t (d s t .0 h) a x i in (r .0, r .1, d x (r .0) .1 (r .2));
+      back = λ s t h a x i. let r = b .back s t (d s t .0 h) a x i in (r .0, r .1, d (r .0) x .1 (r .2));
+    }
 
 pub related-by : (p q : Meaning) (R : ℕ → ℕ → Bool) (S : ℕ → ℕ → Type 0) → Decided R S → BisimulationOf p q S → (s t : ℕ) → S s t → Related p q s t
 related-by p q R S d b s t h = (R, by-test p q R S d b, d s t .1 h)
 
--- equality
-pub equality : (m : Meaning) → BisimulationOf m m (λ s t. s ≡ t)
+-- equality is a bisimulation
+equality : (m : Meaning) → BisimulationOf m m (λ s t. s ≡ t)
 equality m =
-    record { alike = λ s t e. ap (m .ends) e; forth = λ s t e a x i. (x, subst (λ (v : ℕ). In (a, x) (m .steps v)) e i, refl); back = λ s t e a x i. (x, subst (λ (v : ℕ). In (a, x) (m .steps v)) (sym e) i, refl) }
+    record {
+      alike = λ s t e. ap (m .ends) e;
+      forth = λ s t e a x i. (x, subst (λ (v : ℕ). In (a, x) (m .steps v)) e i, refl);
+      back = λ s t e a x i. (x, subst (λ (v : ℕ). In (a, x) (m .steps v)) (sym e) i, refl);
+    }
 
 pub related-reflexive : Related-reflexive
 related-reflexive m s = related-by m m eqb (λ x y. x ≡ y) decides-eqb (equality m) s s refl
@@ -64,13 +72,16 @@ decides-some p P each n = decides-below-or p P (some-below p) each refl (λ _. r
 pub decides-self : (b : Bool) → Decides b (b ≡ true)
 decides-self b = (λ e. e, λ e. e)
 
-pub decides-through : (n : ℕ) (R S : ℕ → ℕ → Bool) → Decided (λ s u. some-below (λ t. R s t && S t u) n) (Through n (Passing R) (Passing S))
+decides-through : (n : ℕ) (R S : ℕ → ℕ → Bool) → Decided (λ s u. some-below (λ t. R s t && S t u) n) (Through n (Passing R) (Passing S))
 decides-through n R S s u =
     decides-some (λ t. R s t && S t u) (λ t. (R s t ≡ true) × (S t u ≡ true)) (λ t. decides-and (R s t) (S t u) (decides-self (R s t)) (decides-self (S t u))) n
 
 pub related-transitive : Related-transitive
 related-transitive p q r s t u in-q l x y =
-    related-by p r _ (Through (q .count) (Passing (x .0)) (Passing (y .0))) (decides-through (q .count) (x .0) (y .0)) (compose p q r (Passing (x .0)) (Passing (y .0)) in-q (x .1) (y .1)) s u (t, l, (x .2, y .2))
+    let R = Passing (x .0) in
+    let S = Passing (y .0) in
+    let both = compose p q r R S in-q (x .1) (y .1) in
+    related-by p r _ (Through (q .count) R S) (decides-through (q .count) (x .0) (y .0)) both s u (t, l, (x .2, y .2))
 
 pub lawful-inside : Lawful-inside
 lawful-inside most m h s a t _ i = h .aims s a t i

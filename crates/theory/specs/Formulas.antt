@@ -13,6 +13,7 @@ pub data Formula : Type 0 where
   A : Formula → Formula → Formula
   D : ℕ → Formula → Formula
 
+-- f holds at state s of m
 abbrev pub Holds : Meaning → ℕ → Formula → Type 0
 Holds m s T = Unit {0}
 Holds m s E = m .ends s ≡ true

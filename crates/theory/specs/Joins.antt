@@ -8,6 +8,7 @@ use Rattle.lts.specs.Meaning.{Meaning}
 abbrev pub raised : ℕ → ℕ × ℕ → ℕ × ℕ
 raised n x = (x .0, n + x .1)
 
+-- m is p and q side by side: state t of q is state p .count + t of m
 pub record Joins (p q m : Meaning) : Type 0 where
   pub counts : m .count ≡ p .count + q .count
   pub left-ends : (s : ℕ) → s < p .count → m .ends s ≡ p .ends s

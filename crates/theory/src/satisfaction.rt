@@ -1,6 +1,6 @@
 // Formulas against bisimulations and rounds.
 ghost use mathlib.Core.Path.{_≡_};
-ghost use Rattle.theory.specs.Theorems.{Bisimilar-formulas, Related-formulas, Separated-unrelated, Agree-formulas, Separated-disagree, Separated-depth, Joined-left, Joined-right};
+ghost use Rattle.theory.specs.Theorems.{Bisimilar-formulas, Related-formulas, Separated-unrelated, Agree-formulas, Separated-disagree, Separated-depth, Joined-left, Joined-right, Joined-separates};
 use crate::bisimilarity::Relation;
 
 pub fn related_states_satisfy_the_same_formulas() -> u8
@@ -19,14 +19,15 @@ pub fn none_relates_a_separated_pair<R: Relation>() -> u8
     0
 }
 
-pub fn agreeing_states_satisfy_the_same_formulas_up_to_the_round() -> u8
+// Of depth at most the round.
+pub fn agreeing_states_satisfy_the_same_formulas() -> u8
     ensures value { λ r. ⌜ r ≡ 0 ⌝ }
     ensures same { λ _. ⌜ Agree-formulas ⌝ }
 {
     0
 }
 
-pub fn no_separating_formula_is_shallower_than_the_first_disagreement() -> u8
+pub fn separating_depth_is_at_least_the_first_disagreement() -> u8
     ensures value { λ r. ⌜ r ≡ 0 ⌝ }
     ensures disagree { λ _. ⌜ Separated-disagree ⌝ }
     ensures depth { λ _. ⌜ Separated-depth ⌝ }
@@ -38,6 +39,7 @@ pub fn formulas_hold_as_in_the_joined_procedure() -> u8
     ensures value { λ r. ⌜ r ≡ 0 ⌝ }
     ensures left { λ _. ⌜ Joined-left ⌝ }
     ensures right { λ _. ⌜ Joined-right ⌝ }
+    ensures separates { λ _. ⌜ Joined-separates ⌝ }
 {
     0
 }
