@@ -1,0 +1,15 @@
+pub mod Letters
+pub mod Feeding
+pub mod Complete
+pub mod Spelled
+pub mod Scanning
+pub mod Pushing
+pub mod Growing
+pub mod Moves
+pub mod Finishing
+pub mod Progress
+pub mod Joined
+pub mod Steps
+pub mod Derived
+pub mod Table
+pub mod Heads

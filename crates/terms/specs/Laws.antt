@@ -1,0 +1,3 @@
+-- Proofs that the ghost members of the term's source cite.
+pub mod Order
+pub mod Lawful

@@ -1,0 +1,13 @@
+pub mod Syntax
+pub mod Grammar
+pub mod Scan
+pub mod Rules
+pub mod Graph
+pub mod Nodes
+pub mod Faults
+pub mod Terms
+pub mod Assembly
+pub mod Reader
+pub mod Reading
+pub mod Laws
+pub mod Walks
