@@ -6,8 +6,10 @@ ghost use mathlib.Core.Path.{_≡_};
 ghost use Rattle.std.specs.Of.String.{string-bytes};
 ghost use Rattle.std.specs.Vec.{made};
 ghost use Rattle.std.specs.declared.option.Option.the-variants.{Some};
-ghost use Rattle.drawings.specs.Texts.{action-text, head-text, state-text, step-text, foot-text, last-text};
+ghost use Rattle.lts.specs.Meaning.{Meaning};
+ghost use Rattle.drawings.specs.Texts.{action-text, head-text, state-text, step-text, steps-text, foot-text, last-text, row-text, transitions-of, transitions, drawing};
 use crate::form::Form;
+use lts::Source;
 use std::alloc::AllocError;
 use std::alloc::Global;
 use std::fmt;
@@ -74,4 +76,97 @@ fn step(
         Form::Dot => format!(heap, "  {s} -> {target} [label=\"{action}\"];\n"),
         Form::Aut => format!(heap, "({s}, \"{action}\", {target})\n"),
     }
+}
+
+fn foot(form: Form) -> &'static str
+    ensures { λ r. ⌜ now r ≡ foot-text form ⌝ }
+{
+    match form {
+        Form::Table => "\n",
+        Form::Dot | Form::Aut => "",
+    }
+}
+
+fn last(form: Form) -> &'static str
+    ensures { λ r. ⌜ now r ≡ last-text form ⌝ }
+{
+    match form {
+        Form::Dot => "}\n",
+        Form::Table | Form::Aut => "",
+    }
+}
+
+// The steps out of state s, in their order.
+fn push_steps<const N: usize, S: Source<N>>(
+    out: &mut String,
+    heap: Global,
+    form: Form,
+    source: &S,
+    s: usize,
+    end: bool,
+) -> Result<(), AllocError>
+    ensures { λ r. ⌜ made r (λ _. string-bytes (now (out .exit)) ≡ string-bytes (now (out .entry)) ++ steps-text form s (not end) (meaning (now (source .entry)) .steps s)) ⌝ }
+{
+    let mut k = 0;
+    while let Some((action, target)) = source.step(s, k) {
+        let fresh = (k == 0) & !end;
+        let text = step(heap, form, s, fresh, action, target)?;
+        out.push_str(text.as_str())?;
+        k += 1;
+    }
+    Ok(())
+}
+
+// All that is told of state s.
+fn push_row<const N: usize, S: Source<N>>(
+    out: &mut String,
+    heap: Global,
+    form: Form,
+    source: &S,
+    s: usize,
+) -> Result<(), AllocError>
+    ensures { λ r. ⌜ made r (λ _. string-bytes (now (out .exit)) ≡ string-bytes (now (out .entry)) ++ row-text form (meaning (now (source .entry))) s) ⌝ }
+{
+    let end = source.is_end(s);
+    let silent = source.step_count(s) == 0;
+    let start = state(heap, form, s, end, silent)?;
+    out.push_str(start.as_str())?;
+    push_steps(out, heap, form, source, s, end)?;
+    out.push_str(foot(form))?;
+    Ok(())
+}
+
+// How many transitions out of state s the Aldebaran form has.
+fn row_transitions<const N: usize, S: Source<N>>(source: &S, s: usize) -> usize
+    ensures { λ r. ⌜ (r ≡ transitions-of (meaning (now (source .entry))) s) × (r ≤ 4097) ⌝ }
+{
+    let steps = source.step_count(s);
+    if source.is_end(s) { steps + 1 } else { steps }
+}
+
+// How many transitions the Aldebaran form has.
+fn transition_count<const N: usize, S: Source<N>>(source: &S) -> usize
+    ensures { λ r. ⌜ r ≡ transitions (meaning (now (source .entry))) ⌝ }
+{
+    let mut total = 0;
+    for s in 0..source.states() {
+        total += row_transitions(source, s);
+    }
+    total
+}
+
+// The whole procedure in a form.
+pub fn draw<const N: usize, S: Source<N>>(
+    heap: Global,
+    form: Form,
+    source: &S,
+) -> Result<String, AllocError>
+    ensures { λ r. ⌜ made r (λ t. string-bytes t ≡ drawing form (meaning (now (source .entry)))) ⌝ }
+{
+    let mut out = head(heap, form, transition_count(source), source.states())?;
+    for s in 0..source.states() {
+        push_row(&mut out, heap, form, source, s)?;
+    }
+    out.push_str(last(form))?;
+    Ok(out)
 }
