@@ -1,6 +1,6 @@
 use native.Mathlib.Omega.{arith}
 use Rattle.drawings.proofs.Rows.{transitions-more}
-use Rattle.drawings.proofs.draw.transition_count.Needs as need
+use Rattle.drawings.proofs.procedure.transition_count.Needs as need
 
 pub loop-s-again : need.loop-s-again
 loop-s-again g c =

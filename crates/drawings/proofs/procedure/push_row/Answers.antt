@@ -2,7 +2,7 @@ use mathlib.Core.Path.{refl, ap, _∙_}
 use lib.Dec.{eqb}
 use Rattle.std.specs.Of.String.{string-bytes}
 use Rattle.drawings.proofs.Rows.{row-whole}
-use Rattle.drawings.proofs.draw.push_row.Needs as need
+use Rattle.drawings.proofs.procedure.push_row.Needs as need
 
 pub returns : need.returns
 returns g c =

@@ -2,7 +2,7 @@ use borrow.Author.Needs.{needs}
 use native.Mathlib.Omega.{arith}
 use mathlib.Core.Path.{sym, _∙_}
 use Rattle.drawings.proofs.Rows.{end-transitions, plain-transitions}
-use Rattle.drawings.proofs.draw.row_transitions.Needs as need
+use Rattle.drawings.proofs.procedure.row_transitions.Needs as need
 
 pub add-result : need.add-result
 add-result g c = let n = g .S·Source .lawful (c .args .source .now) .short (c .args .s) in search needs

@@ -1,6 +1,6 @@
 use Rattle.std.specs.Of.String.{string-bytes}
 use Rattle.drawings.proofs.Rows.{rows-more}
-use Rattle.drawings.proofs.draw.draw.Needs as need
+use Rattle.drawings.proofs.procedure.draw.Needs as need
 
 pub loop-s-again : need.loop-s-again
 loop-s-again g c =

@@ -5,7 +5,7 @@ use mathlib.Core.Path.{_≡_, sym, ap, subst, _∙_}
 use lib.ListN.{length}
 use Rattle.std.specs.Of.String.{string-bytes}
 use Rattle.drawings.proofs.Rows.{Stepped, nth-drop, stepped-more, stepped-all}
-use Rattle.drawings.proofs.draw.push_steps.Needs as need
+use Rattle.drawings.proofs.procedure.push_steps.Needs as need
 
 pub add-k : need.add-k
 add-k g c =

@@ -1,0 +1,15 @@
+// Texts of many lines.
+ghost use mathlib.Core.Path.{_≡_};
+ghost use Rattle.drawings.specs.Lines.{first-line, later-lines};
+
+// The first line without its line feed, and what follows it.
+pub fn split_line(text: &[u8]) -> (&[u8], &[u8])
+    ensures { λ r. ⌜ (now (r .0) ≡ first-line (now (text .entry))) × (now (r .1) ≡ later-lines (now (text .entry))) ⌝ }
+{
+    for (at, byte) in text.iter().enumerate() {
+        if *byte == b'\n' {
+            return (&text[0..at], &text[at + 1..]);
+        }
+    }
+    (text, &[])
+}
