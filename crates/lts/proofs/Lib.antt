@@ -1,1 +1,6 @@
 pub mod Reading
+pub mod Mapping
+pub mod Joining
+pub mod Counting
+pub mod Filling
+pub mod Copies

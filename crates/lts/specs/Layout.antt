@@ -1,6 +1,6 @@
 -- What a stored procedure means: the steps of state s stand at places first[s] to first[s + 1].
 use Prim.Native.Nat.{ℕ, _+_, _-_, _≤_, _<_}
-use mathlib.Core.Bool.{Bool, true, false, cond, _&&_}
+use mathlib.Core.Bool.{false, cond, _&&_}
 use mathlib.Core.List.{List, [], map}
 use lib.Dec.{ltb}
 use lib.ListN.{getD}
@@ -20,3 +20,12 @@ listed p s = map (step-at p) (counting (from p s) (from p (s + 1) - from p s))
 
 abbrev pub stored : Procedure → Meaning
 stored p = record { count = p .states; ends = λ s. ltb s (p .states) && getD (p .ends) s false; steps = λ s. cond (ltb s (p .states)) (listed p s) [] }
+
+-- what makes a stored procedure readable as a source
+pub record Sound (p : Procedure) : Type 0 where
+  pub some : 1 ≤ p .states
+  pub few : p .states ≤ 128
+  pub rises : (s : ℕ) → s < p .states → from p s ≤ from p (s + 1)
+  pub room : from p (p .states) ≤ 512
+  pub acts : (k : ℕ) → k < from p (p .states) → step-at p k .0 ≤ 63
+  pub aims : (k : ℕ) → k < from p (p .states) → step-at p k .1 < p .states

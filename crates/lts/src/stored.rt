@@ -8,6 +8,7 @@ use crate::procedure::Procedure;
 use crate::source::Most;
 use crate::source::Source;
 
+#[derive(Clone, Copy)]
 pub struct Stored<'a> {
     pub of: &'a Procedure,
     ghost some: { 1 ≤ now of .states },

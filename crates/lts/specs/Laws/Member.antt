@@ -1,16 +1,15 @@
 -- What stands in a list.
 use Prim.Native.Nat.{ℕ, zero, suc, _+_, _<_, _≤_}
+use native.Mathlib.Nat.{zero-add, suc-add}
 use native.Mathlib.Omega.{arith}
-use native.Mathlib.Numerals.{add-one}
 use mathlib.Core.List.{List, [], _∷_, _++_, map}
 use mathlib.Core.Logic.{_⊎_, inl, inr, ⊎-elim}
-use mathlib.Core.Path.{_≡_, refl, sym, ap, subst, _∙_}
+use mathlib.Core.Path.{_≡_, refl, sym, ap}
 use lib.ListN.{length, getD}
 use Rattle.std.specs.Finite.{nth}
 use Rattle.std.specs.Iters.{counting}
-use Rattle.std.specs.declared.option.Option.{Option}
 use Rattle.std.specs.declared.option.Option.the-variants.{None, Some}
-use Rattle.lts.specs.Meaning.{In}
+use Rattle.lts.specs.Meaning.{Meaning, Lawful, In}
 
 pub in-left : {X : Type 0} (x : X) (xs ys : List X) → In x xs → In x (xs ++ ys)
 in-left x [] ys h = absurd h
@@ -61,3 +60,36 @@ pub nth-map-none : {X Y : Type 0} (f : X → Y) (xs : List X) (k : ℕ) → nth 
 nth-map-none f [] k e = refl
 nth-map-none f (y ∷ xs) zero e = let z : _≡_ {A = ℕ} 0 1 = cc in let b : ⊥ = omega arith in absurd b
 nth-map-none f (y ∷ xs) (suc k) e = nth-map-none f xs k e
+
+-- what is listed at a place, by its number
+pub nth-inside : {X : Type 0} (x : X) (xs : List X) (k : ℕ) → nth xs k ≡ Some x → k < length xs
+nth-inside x [] k e = let z : _≡_ {A = ℕ} 0 1 = cc in omega arith
+nth-inside x (y ∷ xs) zero e = omega arith
+nth-inside x (y ∷ xs) (suc k) e = let h = nth-inside x xs k e in omega arith
+
+pub nth-missing : {X : Type 0} (xs : List X) (k : ℕ) → None ≡ nth xs k → length xs ≤ k
+nth-missing [] k e = omega arith
+nth-missing (y ∷ xs) zero e = let z : _≡_ {A = ℕ} 0 1 = cc in omega arith
+nth-missing (y ∷ xs) (suc k) e = let h = nth-missing xs k e in omega arith
+
+pub nth-is : {X : Type 0} (x d : X) (xs : List X) (k : ℕ) → nth xs k ≡ Some x → getD xs k d ≡ x
+nth-is x d [] k e = let z : _≡_ {A = ℕ} 0 1 = cc in let b : ⊥ = omega arith in absurd b
+nth-is x d (y ∷ xs) zero e = cc
+nth-is x d (y ∷ xs) (suc k) e = nth-is x d xs k e
+
+pub nth-left : {X : Type 0} (xs ys : List X) (k : ℕ) → k < length xs → nth (xs ++ ys) k ≡ nth xs k
+nth-left [] ys k h = let b : ⊥ = omega arith in absurd b
+nth-left (x ∷ xs) ys zero h = refl
+nth-left (x ∷ xs) ys (suc k) h = nth-left xs ys k (omega arith)
+
+pub nth-right : {X : Type 0} (xs ys : List X) (k : ℕ) → nth (xs ++ ys) (length xs + k) ≡ nth ys k
+nth-right [] ys k = rw zero-add
+nth-right (x ∷ xs) ys k = rw suc-add (nth-right xs ys k)
+
+-- the step that a source answers for a place keeps the source's bounds
+module _ {most : ℕ} (m : Meaning) (law : Lawful most m) (s k a t : ℕ) (at : Some (a, t) ≡ nth (m .steps s) k) where
+  pub listed-action : a ≤ 63
+  listed-action = law .acts s a t (nth-in (a, t) (m .steps s) k (sym at))
+
+  pub listed-target : t < m .count
+  listed-target = law .aims s a t (nth-in (a, t) (m .steps s) k (sym at))

@@ -2,17 +2,14 @@
 use Prim.Native.Nat.{ℕ, zero, suc, _+_, _-_, _<_, _≤_}
 use native.Mathlib.Nat.{add-zero}
 use native.Mathlib.Omega.{arith}
-use mathlib.Core.Bool.{Bool, true, false, cond, _&&_}
-use mathlib.Core.List.{List, [], _∷_, map}
-use mathlib.Core.Logic.{_⊎_, inl, inr, ⊎-elim}
-use mathlib.Core.Path.{_≡_, refl, sym, ap, subst, _∙_}
-use lib.Dec.{ltb}
-use lib.ListN.{length, getD}
+use mathlib.Core.Logic.{⊎-elim}
+use mathlib.Core.Path.{_≡_, ap}
+use lib.ListN.{length}
 use Rattle.std.specs.Iters.{counting}
 use Rattle.std.proofs.shelf.Counted.{length-map-counting}
-use Rattle.std.proofs.shelf.Tests.{le-ltb, lt-ltb, ltb-true, cases-lt}
-use Rattle.lts.specs.Meaning.{Meaning, Lawful, In}
-use Rattle.lts.specs.Layout.{from, step-at, listed, stored}
+use Rattle.std.proofs.shelf.Tests.{le-ltb, lt-ltb, cases-lt}
+use Rattle.lts.specs.Meaning.{Lawful, In}
+use Rattle.lts.specs.Layout.{from, step-at, listed, stored, Sound}
 use Rattle.lts.specs.declared.procedure.Procedure.{Procedure}
 use Rattle.lts.specs.Laws.Member.{from-map, in-counting}
 
@@ -85,3 +82,6 @@ module _ (p : Procedure) (some : 1 ≤ p .states) (few : p .states ≤ 128) (ris
   pub stored-lawful : Lawful 128 (stored p)
   stored-lawful =
       record { some = some; few = few; no-ends = λ s l. rw (le-ltb s (p .states) l); no-steps = λ s l. rw (le-ltb s (p .states) l); short = brief; acts = listed-acts; aims = listed-aims }
+
+pub sound-lawful : (p : Procedure) → Sound p → Lawful 128 (stored p)
+sound-lawful p h = stored-lawful p (h .some) (h .few) (h .rises) (h .room) (h .acts) (h .aims)

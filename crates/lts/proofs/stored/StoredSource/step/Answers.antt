@@ -1,8 +1,6 @@
 use borrow.Author.Needs.{needs}
 use native.Mathlib.Omega.{arith}
-use Prim.Native.Nat.{_<_, _≤_}
 use mathlib.Core.Path.{sym}
-use lib.ListN.{length}
 use Rattle.std.proofs.shelf.Maps.{nth-past}
 use Rattle.lts.specs.Layout.{stored}
 use Rattle.lts.proofs.Reading.{placed, step-inside}
