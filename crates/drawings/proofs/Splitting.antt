@@ -1,5 +1,6 @@
 -- Where a line ends.
-use Prim.Native.Nat.{ℕ, _+_, _<_, _≤_}
+use Prim.Native.Nat.{ℕ, suc, _+_, _<_, _≤_}
+use native.Mathlib.Omega.{arith}
 use mathlib.Core.Bool.{Bool, true, false}
 use mathlib.Core.List.{List, [], _∷_, _++_, append-assoc, append-nil}
 use mathlib.Core.Path.{_≡_, refl, sym, ap, subst, _∙_}
@@ -39,3 +40,19 @@ never-ends text i l u =
       sym (u .line ∙ (ap (λ zs. take i text ++ first-line zs) d ∙ (append-nil (take i text) ∙ take-all i text l))),
       sym (u .later ∙ ap later-lines d),
     )
+
+later-most : (text : List ℕ) → length (later-lines text) ≤ length text
+later-most [] = omega arith
+later-most (b ∷ bs) = go (eqb b 10) refl (later-most bs)
+  where
+    go : (t : Bool) → eqb b 10 ≡ t → length (later-lines bs) ≤ length bs → length (later-lines (b ∷ bs)) ≤ suc (length bs)
+    go true e h = rw e (omega arith)
+    go false e h = rw e (omega arith)
+
+pub later-shorter : (text : List ℕ) → 0 < length text → length (later-lines text) < length text
+later-shorter [] l = l
+later-shorter (b ∷ bs) l = go (eqb b 10) refl
+  where
+    go : (t : Bool) → eqb b 10 ≡ t → length (later-lines (b ∷ bs)) < suc (length bs)
+    go true e = rw e (omega arith)
+    go false e = let h = later-most bs in rw e (omega arith)
