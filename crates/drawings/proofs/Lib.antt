@@ -1,1 +1,3 @@
 pub mod Characters
+pub mod Rows
+pub mod Splitting

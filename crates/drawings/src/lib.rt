@@ -1,3 +1,10 @@
 // Procedures written out for people and for other tools.
-pub mod draw;
 pub mod form;
+pub mod lines;
+pub mod procedure;
+pub mod term;
+
+pub use form::Form;
+pub use lines::split_line;
+pub use procedure::draw;
+pub use term::draw_term;

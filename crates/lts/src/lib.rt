@@ -8,8 +8,6 @@ pub mod procedure;
 pub mod source;
 pub mod stored;
 pub mod system;
-#[cfg(test)]
-mod tests;
 
 pub use action_map::ActionMap;
 pub use copying::copied;

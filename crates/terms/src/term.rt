@@ -14,6 +14,7 @@ mod walk;
 use crate::node::Node;
 pub use source::TermSource;
 
+#[derive(Clone, Copy)]
 pub struct Term {
     nodes: [Node; 125],
     used: u8,

@@ -1,6 +1,6 @@
 use mathlib.Core.List.{append-nil}
 use Rattle.std.specs.Written.{decimal}
-use Rattle.drawings.proofs.draw.state.Needs as need
+use Rattle.drawings.proofs.procedure.state.Needs as need
 
 pub returns-in-Table-2 : need.returns-in-Table-2
 returns-in-Table-2 c = rw (c .in-Table .is, c .if-end .left, c .if-silent .taken) (c .format-in-Table-2 .ensures .made)

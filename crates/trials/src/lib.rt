@@ -1,0 +1,8 @@
+// Tests of the libraries together.
+
+#[cfg(test)]
+mod drawn;
+#[cfg(test)]
+mod mapped;
+#[cfg(test)]
+mod stored;
