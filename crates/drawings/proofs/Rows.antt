@@ -24,7 +24,7 @@ use Rattle.drawings.specs.declared.form.Form.{Form}
 abbrev pub Stepped : Form → ℕ → Bool → List (ℕ × ℕ) → ℕ → List ℕ → List ℕ → Type 0
 Stepped form s end steps k first out = out ++ steps-text form s (eqb k 0 && not end) (drop k steps) ≡ first ++ steps-text form s (not end) steps
 
-pub nth-drop : {X : Type 0} (xs : List X) (k : ℕ) (x : X) → nth xs k ≡ Some x → (k < length xs) × (drop k xs ≡ x ∷ drop (k + 1) xs)
+pub nth-drop : {X : Type 0} (xs : List X) (k : ℕ) (x : X) → Some x ≡ nth xs k → (k < length xs) × (drop k xs ≡ x ∷ drop (k + 1) xs)
 nth-drop [] k x e = let z : _≡_ {A = ℕ} 0 1 = cc in let b : ⊥ = omega arith in absurd b
 nth-drop (y ∷ xs) zero x e = let f : y ≡ x = cc in (omega arith, ap (λ z. z ∷ xs) f)
 nth-drop (y ∷ xs) (suc k) x e =
@@ -33,21 +33,21 @@ nth-drop (y ∷ xs) (suc k) x e =
     let l = h .0 in
     (omega arith, h .1 ∙ ap (λ m. x ∷ drop m (y ∷ xs)) (sym n))
 
-pub nth-none : {X : Type 0} (xs : List X) (k : ℕ) → nth xs k ≡ None → drop k xs ≡ []
+pub nth-none : {X : Type 0} (xs : List X) (k : ℕ) → None ≡ nth xs k → drop k xs ≡ []
 nth-none [] zero e = refl
 nth-none [] (suc k) e = refl
 nth-none (y ∷ xs) zero e = let z : _≡_ {A = ℕ} 0 1 = cc in let b : ⊥ = omega arith in absurd b
 nth-none (y ∷ xs) (suc k) e = nth-none xs k e
 
 module _ (form : Form) (s : ℕ) (end : Bool) (steps : List (ℕ × ℕ)) (k : ℕ) (first out : List ℕ) where
-  pub stepped-more : (x : ℕ × ℕ) (text : List ℕ) → nth steps k ≡ Some x → text ≡ step-text form s (eqb k 0 && not end) x → Stepped form s end steps k first out → Stepped form s end steps (k + 1) first (out ++ text)
-  stepped-more x text e t h =
+  pub stepped-more : (x : ℕ × ℕ) (text out′ : List ℕ) → Some x ≡ nth steps k → text ≡ step-text form s (eqb k 0 && not end) x → out′ ≡ out ++ text → Stepped form s end steps k first out → Stepped form s end steps (k + 1) first out′
+  stepped-more x text out′ e t o h =
       let d = nth-drop steps k x e .1 in
       let h′ : out ++ (step-text form s (eqb k 0 && not end) x ++ steps-text form s false (drop (k + 1) steps)) ≡ first ++ steps-text form s (not end) steps = subst (λ zs. out ++ steps-text form s (eqb k 0 && not end) zs ≡ first ++ steps-text form s (not end) steps) d h in
       let n : eqb (k + 1) 0 ≡ false = ne-eqb (k + 1) 0 (λ z. (let b : ⊥ = omega arith in b)) in
-      rw n (rw t (append-assoc out (step-text form s (eqb k 0 && not end) x) (steps-text form s false (drop (k + 1) steps)) ∙ h′))
+      rw (n, o, t) (append-assoc out (step-text form s (eqb k 0 && not end) x) (steps-text form s false (drop (k + 1) steps)) ∙ h′)
 
-  pub stepped-all : nth steps k ≡ None → Stepped form s end steps k first out → out ≡ first ++ steps-text form s (not end) steps
+  pub stepped-all : None ≡ nth steps k → Stepped form s end steps k first out → out ≡ first ++ steps-text form s (not end) steps
   stepped-all e h =
       let h′ : out ++ [] ≡ first ++ steps-text form s (not end) steps = subst (λ zs. out ++ steps-text form s (eqb k 0 && not end) zs ≡ first ++ steps-text form s (not end) steps) (nth-none steps k e) h in
       sym (append-nil out) ∙ h′

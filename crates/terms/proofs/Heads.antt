@@ -11,7 +11,7 @@ use Rattle.std.specs.declared.option.Option.{Option}
 use Rattle.std.specs.declared.option.Option.the-variants.{None, Some}
 use Rattle.std.specs.declared.result.Result.{Result}
 use Rattle.std.specs.declared.result.Result.the-variants.{Ok, Err}
-use Rattle.lts.specs.Laws.Member.{nth-map}
+use Rattle.lts.specs.Laws.Member.{nth-map, nth-right}
 use Rattle.terms.specs.Syntax.{Tree, size, Rest, done, left}
 use Rattle.terms.specs.Graph.{followed, firsts, rests, contents, leads}
 use Rattle.terms.specs.Terms.{tree-of}
@@ -22,7 +22,7 @@ use Rattle.terms.specs.declared.node.Node.the-variants.{Choice, Sequence}
 use Rattle.terms.specs.declared.term.Term.{Term}
 use Rattle.terms.specs.declared.term.walk.Head.{Head}
 use Rattle.terms.specs.declared.term.walk.Head.the-variants.{Done, At}
-use Rattle.terms.proofs.Joined.{nth-first, nth-second}
+use Rattle.terms.proofs.Joined.{nth-first}
 
 -- The actions that can come first of a choice: those of its first part, then those of its second.
 module _ (t : Term) (n x y : ℕ) (says : Says t n (Choice x y)) where
@@ -36,7 +36,7 @@ module _ (t : Term) (n x y : ℕ) (says : Says t n (Choice x y)) where
   first-found k v h = rw choice-firsts (nth-first v (firsts (node-tree t x)) (firsts (node-tree t y)) k h)
 
   pub first-past : (k past : ℕ) (r : Result (ℕ × ℕ) ℕ) → Picked (firsts (node-tree t x)) k (Err past) → Picked (firsts (node-tree t y)) past r → Picked (firsts (node-tree t n)) k r
-  first-past k past (Ok v) e h = rw (choice-firsts, e) (nth-second (firsts (node-tree t x)) (firsts (node-tree t y)) past ∙ h)
+  first-past k past (Ok v) e h = rw (choice-firsts, e) (nth-right (firsts (node-tree t x)) (firsts (node-tree t y)) past ∙ h)
   first-past k past (Err past′) e h = omega (arith, width-choice)
 
 -- What remains after the actions of two parts, one behind the other.
@@ -45,7 +45,7 @@ module _ (t : Term) (then : Head) (xs ys : List (Rest Tree)) (k : ℕ) where
   behind-first h b = (b .0, nth-first (b .0) xs ys k (b .1), b .2)
 
   behind-second : (past : ℕ) (r : Result Head ℕ) → k ≡ length xs + past → Behind t then ys past r → Behind t then (xs ++ ys) k r
-  behind-second past (Ok h) e b = (b .0, rw e (nth-second xs ys past ∙ b .1), b .2)
+  behind-second past (Ok h) e b = (b .0, rw e (nth-right xs ys past ∙ b .1), b .2)
   behind-second past (Err past′) e b = omega (arith, length-append xs ys)
 
 module _ (t : Term) (then : Head) (n x y : ℕ) (says : Says t n (Choice x y)) (k : ℕ) where

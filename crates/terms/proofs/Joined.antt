@@ -1,6 +1,5 @@
 -- What stands where in two lists joined.
 use Prim.Native.Nat.{ℕ, zero, suc, _+_}
-use native.Mathlib.Nat.{zero-add, suc-add}
 use native.Mathlib.Omega.{arith}
 use mathlib.Core.List.{List, [], _∷_, _++_, map}
 use mathlib.Core.Logic.{_⊎_, inl, inr, ⊎-elim}
@@ -14,10 +13,6 @@ pub nth-first : {X : Type 0} (x : X) (xs ys : List X) (k : ℕ) → nth xs k ≡
 nth-first x [] ys k e = never (cc)
 nth-first x (y ∷ xs) ys zero e = e
 nth-first x (y ∷ xs) ys (suc k) e = nth-first x xs ys k e
-
-pub nth-second : {X : Type 0} (xs ys : List X) (k : ℕ) → nth (xs ++ ys) (length xs + k) ≡ nth ys k
-nth-second [] ys k = rw zero-add
-nth-second (x ∷ xs) ys k = rw suc-add (nth-second xs ys k)
 
 pub nth-either : {X : Type 0} (x : X) (xs ys : List X) (k : ℕ) → nth (xs ++ ys) k ≡ Some x → (nth xs k ≡ Some x) ⊎ ((m : ℕ) × (k ≡ length xs + m) × (nth ys m ≡ Some x))
 nth-either x [] ys k e = inr (k, omega arith, e)

@@ -8,13 +8,13 @@ use lib.ListN.{length, length-map}
 use Rattle.std.specs.Finite.{nth}
 use Rattle.std.specs.declared.option.Option.the-variants.{Some}
 use Rattle.lts.specs.Meaning.{In}
-use Rattle.lts.specs.Laws.Member.{in-left, in-right, in-either, nth-map}
+use Rattle.lts.specs.Laws.Member.{in-left, in-right, in-either, nth-map, nth-right}
 use Rattle.terms.specs.Syntax.{Tree, leaf, choice, sequence, size, Rest, done, left}
 use Rattle.terms.specs.Rules.{Process, _⊙_, Derives, act-done, choice-left, choice-right, sequence-done, sequence-left, plain, plain-rest}
 use Rattle.terms.specs.Graph.{followed, rests, contents, firsts}
 use Rattle.terms.specs.Laws.Order.{Numbered, never}
 use Rattle.terms.specs.Laws.Lawful.{length-rests}
-use Rattle.terms.proofs.Joined.{nth-first, nth-second, nth-either, nth-from-map}
+use Rattle.terms.proofs.Joined.{nth-first, nth-either, nth-from-map}
 
 -- t takes the action a, written at place i, and r remains
 abbrev pub Steps : Tree → ℕ → ℕ → Rest Tree → Type 0
@@ -111,7 +111,7 @@ length-followed : (x y : Tree) → length (map (followed y) (rests x)) ≡ size 
 length-followed x y = length-map (rests x) (followed y) ∙ length-rests x
 
 stands-second : (j m i : ℕ) (xs ys : List (Rest Tree)) (r : Rest Tree) → length xs ≡ m → Stands (j + m) i ys r → Stands j i (xs ++ ys) r
-stands-second j m i xs ys r l p = (length xs + p .0, omega (arith, p .1), nth-second xs ys (p .0) ∙ p .2)
+stands-second j m i xs ys r l p = (length xs + p .0, omega (arith, p .1), nth-right xs ys (p .0) ∙ p .2)
 
 pub placed : (j : ℕ) (t : Tree) (i : ℕ) (r : Rest Tree) → Numbered j t → Remains t i r → Stands j i (rests t) r
 placed j (leaf b l) i r n h = (0, omega (arith, n .1, h .0), ap Some (sym (h .1)))

@@ -21,6 +21,12 @@ use crate::fault::TermFault;
 use crate::node::Node;
 use crate::term::Term;
 
+const MOST_BYTES: usize = 512;
+
+const MOST_ACTIONS: u8 = 63;
+
+const MOST_BRACKETS: u8 = 32;
+
 // Before an operand, with the product that a '.' goes on with; or behind one, with the product so far.
 #[derive(Clone, Copy)]
 enum Position {
@@ -112,7 +118,7 @@ impl Reader {
         requires stands { ⌜ now self .position ≡ Position.Before product ⌝ }
         ensures { λ r. ⌜ Acted (now (self .entry)) product action offset r (now (self .exit)) ⌝ }
     {
-        if self.actions >= 63 {
+        if self.actions >= MOST_ACTIONS {
             return Err(TermFault::Actions(offset));
         }
         self.actions += 1;
@@ -129,7 +135,7 @@ impl Reader {
         ensures { λ r. ⌜ Opened (now (self .entry)) product offset r (now (self .exit)) ⌝ }
     {
         let depth = self.open;
-        if depth >= 32 {
+        if depth >= MOST_BRACKETS {
             return Err(TermFault::Brackets(offset));
         }
         self.frames[depth as usize] = Frame {
@@ -224,7 +230,7 @@ impl Term {
         ensures reads { λ r. ⌜ ((u : Tree) → Spells sum 0 (now (text .entry)) u → Cases r (λ t. tree-of t ≡ u) TooLarge) ⌝ }
         ensures derived { λ r. ⌜ made r (λ t. ByRules (tree-of t) (graph (tree-of t))) ⌝ }
     {
-        if text.len() > 512 {
+        if text.len() > MOST_BYTES {
             return Err(TermFault::Long);
         }
         let mut reader = Reader::new();

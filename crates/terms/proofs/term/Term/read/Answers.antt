@@ -10,7 +10,7 @@ returns-in-Break-feed c =
     let text = c .args .text .now in
     let e = err-from-errBy (c .from-residual .result) (c .from-residual .ensures .1) in
     let stop = progress-stop text (c .loop-offset .offset) (c .loop-offset .reader) (c .in-Break-feed .field-0 .0) (c .loop-offset-test .taken) (c .loop-offset .inv) (c .in-Break-feed .ensures tt) in
-    rw (e .1, e .2) (refused-promised text (c .in-Break-feed .field-0 .0) (c .if-text-gt512 .left) stop)
+    rw (e .1, e .2) (refused-promised text (c .in-Break-feed .field-0 .0) (omega arith) stop)
 
 pub loop-offset-again : need.loop-offset-again
 loop-offset-again c =
@@ -25,4 +25,4 @@ finish-requires c κs =
 pub returns : need.returns
 returns c =
     let e : c .loop-offset .offset ≡ length (c .args .text .now) = omega arith in
-    finished-promised (c .args .text .now) (c .loop-offset .reader) (c .finish .result) (c .if-text-gt512 .left) (subst (λ n. Progress (c .args .text .now) n (c .loop-offset .reader)) e (c .loop-offset .inv)) (c .finish .ensures)
+    finished-promised (c .args .text .now) (c .loop-offset .reader) (c .finish .result) (omega arith) (subst (λ n. Progress (c .args .text .now) n (c .loop-offset .reader)) e (c .loop-offset .inv)) (c .finish .ensures)
