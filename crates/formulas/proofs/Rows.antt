@@ -1,10 +1,9 @@
 -- What passes the rows of refusals.
 use Prim.Native.Nat.{ℕ, _*_, _<_, _≤_}
 use native.Mathlib.Omega.{arith}
-use mathlib.Core.Bool.{Bool, true, false, cond, _||_}
+use mathlib.Core.Bool.{Bool, true, false, cond}
 use mathlib.Core.List.{List}
-use mathlib.Core.Path.{_≡_, refl, sym, ap, _∙_}
-use lib.Dec.{eqb, leb, ltb}
+use mathlib.Core.Path.{_≡_, refl, sym}
 use lib.ListN.{length}
 use Rattle.std.specs.declared.option.Option.{Option}
 use Rattle.std.specs.declared.option.Option.the-variants.{None, Some}
@@ -37,13 +36,9 @@ line-passes None e = refl
 line-passes (Some k) e = let z : _≡_ {A = ℕ} 0 1 = cc in let b : ⊥ = omega arith in absurd b
 
 module _ (lines : List Line) (i s count room : ℕ) where
-  -- n is the number of states
-  pub passes : (n : ℕ) → n ≡ count → None ≡ first-fault lines i s n room → first-fault lines i s count room ≡ None
-  passes n e pass = rw e at (sym pass)
-
-  pub admitted : first-fault lines i s count room ≡ None → Admitted lines i s count room
+  pub admitted : None ≡ first-fault lines i s count room → Admitted lines i s count room
   admitted e =
-      let a = both-pass (count-row lines) _ e in
+      let a = both-pass (count-row lines) _ (sym e) in
       let b = both-pass (line-row (misfit-from 0 lines)) _ (a .1) in
       let c = both-pass (absent-row lines i s count) (room-row lines count room) (b .1) in
       let n = or-parts _ _ (test-passes _ _ (a .0)) in

@@ -4,7 +4,7 @@ use native.Mathlib.Omega.{arith}
 use mathlib.Core.Bool.{Bool, true, false}
 use mathlib.Core.List.{List}
 use mathlib.Core.Logic.{_≢_, inl, inr, ⊎-elim}
-use mathlib.Core.Path.{_≡_, refl}
+use mathlib.Core.Path.{_≡_, refl, _∙_}
 use mir.Val.{boolByte}
 use lib.ListN.{length, getD, set, drop}
 use Rattle.std.specs.Orderings.{Decides}
@@ -57,7 +57,7 @@ module _ (m : Meaning) (lines : List Line) (k s x n : ℕ) (work : List ℕ) (st
           let r : k * m .count + s < length work = rw states at room in
           rw (e, getD-set-same work (k * m .count + s) x 0 r) new
 
-  pub write-keeps : k < length lines → drop (length lines * m .count) (set work (k * n + s) x) ≡ drop (length lines * m .count) work
-  write-keeps h =
+  pub write-keeps : k < length lines → (old : List ℕ) → drop (length lines * m .count) work ≡ drop (length lines * m .count) old → drop (length lines * m .count) (set work (k * n + s) x) ≡ drop (length lines * m .count) old
+  write-keeps h old kept =
       let p = place-below k (length lines) (m .count) s h (omega arith) in
-      rw states (drop-set-lt (length lines * m .count) work (k * m .count + s) x p)
+      rw states (drop-set-lt (length lines * m .count) work (k * m .count + s) x p ∙ kept)

@@ -1,11 +1,10 @@
 // Which evaluations are refused, row by row.
-ghost use Prim.Native.Nat.{_≤_};
-ghost use lib.ListN.{length};
 ghost use mathlib.Core.Path.{_≡_};
 ghost use Rattle.formulas.specs.Lines.{fits};
 ghost use Rattle.formulas.specs.Faults.{misfit-from, first-fault};
 use crate::fault::EvaluationFault;
 use crate::line::Line;
+use lts::Source;
 
 // The most lines of a formula.
 const MOST_LINES: usize = 1024;
@@ -39,27 +38,27 @@ fn first_misfit(lines: &[Line]) -> Option<usize>
     None
 }
 
-// The first row that refuses the evaluation of line i at state s.
-pub fn refused(
+// The first row that refuses the evaluation of line i at state s of the source.
+pub(crate) fn refused<const N: usize, S: Source<N>>(
+    source: &S,
     lines: &[Line],
     i: usize,
     s: usize,
-    states: usize,
     room: usize,
 ) -> Option<EvaluationFault>
-    requires { ⌜ states ≤ 128 ⌝ }
-    ensures { λ r. ⌜ r ≡ first-fault (now (lines .entry)) i s states room ⌝ }
+    ensures { λ r. ⌜ r ≡ first-fault (now (lines .entry)) i s (meaning (now (source .entry)) .count) room ⌝ }
 {
+    let n = source.states();
     if lines.is_empty() || lines.len() > MOST_LINES {
         return Some(EvaluationFault::Count);
     }
     if let Some(k) = first_misfit(lines) {
         return Some(EvaluationFault::Line(k));
     }
-    if i >= lines.len() || s >= states {
+    if i >= lines.len() || s >= n {
         return Some(EvaluationFault::Absent);
     }
-    if room < lines.len() * states {
+    if room < lines.len() * n {
         return Some(EvaluationFault::Room);
     }
     None

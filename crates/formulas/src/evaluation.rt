@@ -71,12 +71,11 @@ pub fn evaluate<const N: usize, S: Source<N>>(
 ) -> Result<bool, EvaluationFault>
     ensures { λ r. ⌜ Evaluated (meaning (now (source .entry))) (now (lines .entry)) line state (now (work .entry)) r (now (work .exit)) ⌝ }
 {
-    let n = source.states();
-    if let Some(fault) = refused(lines, line, state, n, work.len()) {
+    if let Some(fault) = refused(source, lines, line, state, work.len()) {
         return Err(fault);
     }
     for k in 0..lines.len() {
         mark_line(source, lines, k, work);
     }
-    Ok(work[line * n + state] == 1)
+    Ok(work[line * source.states() + state] == 1)
 }

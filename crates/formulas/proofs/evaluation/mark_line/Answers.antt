@@ -1,12 +1,10 @@
 use native.Mathlib.Omega.{arith}
-use Prim.Native.Nat.{_+_, _*_, _<_}
-use mathlib.Core.Path.{_≡_, _∙_}
+use mathlib.Core.Path.{_≡_}
 use lib.ListN.{length}
 use Rattle.theory.specs.Formulas.{Holds}
 use Rattle.formulas.specs.Lines.{formula}
 use Rattle.formulas.specs.Evaluation.{Marks, RowMarked}
-use Rattle.formulas.proofs.Marking.{place-below}
-use Rattle.formulas.proofs.Writing.{mark-of, rows-more, write-after, write-next, write-keeps, place-in-table}
+use Rattle.formulas.proofs.Writing.{mark-of, place-in-table, rows-more, write-after, write-next, write-keeps}
 use Rattle.formulas.proofs.evaluation.mark_line.Needs as need
 
 pub index-work-k : need.index-work-k
@@ -27,7 +25,7 @@ loop-s-again g c =
     let l = c .loop-s-test .taken in
     let new : Marks x (Holds m s (formula ls k)) = rw (c .from .ensures) (mark-of (c .holds .result) (Holds m s (formula ls k)) (c .holds .ensures)) in
     let room = index-work-k g c in
-    (write-after m ls k s x n w e l (c .loop-s .inv .0), write-next m ls k s x n w e l room new (c .loop-s .inv .1), write-keeps m ls k s x n w e l (c .pre .inside) ∙ c .loop-s .inv .2)
+    (write-after m ls k s x n w e l (c .loop-s .inv .0), write-next m ls k s x n w e l room new (c .loop-s .inv .1), write-keeps m ls k s x n w e l (c .pre .inside) (c .args .work .now) (c .loop-s .inv .2))
 
 pub returns : need.returns
 returns g c =
