@@ -1,7 +1,7 @@
 -- The ten pairs.
+use Prim.Native.Nat.{ℕ}
 use mathlib.Core.Bool.{Bool, true, false}
 use mathlib.Core.List.{List, [], _∷_}
-use Prim.Native.Nat.{ℕ}
 use lib.ListN.{length, getD}
 use Rattle.lts.specs.Meaning.{Meaning}
 use Rattle.pairs.specs.Rows.{term, given, same, different, Row}

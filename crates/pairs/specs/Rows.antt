@@ -34,13 +34,13 @@ abbrev pub Told : Meaning → Meaning → Verdict → Type 0
 Told p q same = Related p q 0 0
 Told p q (different d) = (Related p q 0 0 → ⊥) × ((k : ℕ) → k < d → Agree (joined p q) k 0 (p .count)) × (Agree (joined p q) d 0 (p .count) → ⊥)
 
--- Procedures p and q: side by side their states have K classes, and r is the least stable round
+-- How p and q compare: the verdict; side by side their states have K classes, and r is the least stable round.
 pub record Compares (p q : Meaning) (verdict : Verdict) (K r : ℕ) : Type 0 where
   pub told : Told p q verdict
   pub classes : (n : ℕ → ℕ) × Classes (joined p q) (all-of (joined p q)) K n
   pub rounds : Rounds (joined p q) (all-of (joined p q)) r
 
--- the two sides mean procedures that compare so
+-- The two sides mean procedures that compare so.
 pub record Row (left right : Side) (verdict : Verdict) (K r : ℕ) : Type 0 where
   pub p : Meaning
   pub q : Meaning
