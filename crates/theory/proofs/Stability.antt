@@ -16,7 +16,7 @@ use Rattle.theory.proofs.Counting.{number-none, number-below, Least, find-leas
 use Rattle.theory.proofs.Firsts.{Equivalence, firsts, rank, by-rank}
 use Rattle.theory.proofs.Numberings.{count-few, count-rises, count-same, count-determined}
 
-agree-equivalence : (m : Meaning) (k : ℕ) → Equivalence (agree m k)
+pub agree-equivalence : (m : Meaning) (k : ℕ) → Equivalence (agree m k)
 agree-equivalence m k =
     record {
       reflexive = λ s. agree-decided m k s s .1 (agree-reflexive m k s);
