@@ -1,0 +1,3 @@
+pub mod Determined
+pub mod Keeping
+pub mod Lasting

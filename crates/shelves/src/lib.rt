@@ -1,0 +1,1 @@
+// The shelf: procedures filed, submitted, claimed and released, and the law over all runs of these calls.
