@@ -9,11 +9,11 @@ use Rattle.lts.specs.Meaning.{Meaning}
 use Rattle.theory.specs.Formulas.{Formula, depth, Tells, Separates}
 use Rattle.theory.proofs.Formulas.{related-formulas}
 use Rattle.theory.proofs.Relations.{related-symmetric}
-use Rattle.shelves.specs.Account.{Alike, Least, Filled, Account}
-use Rattle.shelves.specs.Calls.{Call, submit, claim, Answer, cleared, refusal, Event, Does, refuses, agrees, differs, claims, files, releases, withdraws, Run, start, more}
-use Rattle.shelves.specs.Law.{first-filed, Called, Law, Lasting}
-use Rattle.shelves.proofs.Determined.{never, determined}
-use Rattle.shelves.proofs.Keeping.{alike-through, Keeps, kept}
+use Rattle.accounts.specs.Account.{Alike, Least, Filled, Account}
+use Rattle.accounts.specs.Calls.{Call, submit, claim, Answer, cleared, refusal, Event, Does, refuses, agrees, differs, claims, files, releases, withdraws, Run, start, more}
+use Rattle.accounts.specs.Law.{first-filed, Called, Law, Lasting}
+use Rattle.accounts.proofs.Determined.{never, determined}
+use Rattle.accounts.proofs.Keeping.{alike-through, Keeps, kept}
 
 -- the call in the middle of a run, with the account before it
 pub record Happened (n : ℕ) (before : List Event) (e : Event) : Type 0 where

@@ -10,7 +10,7 @@ use Rattle.std.specs.declared.option.Option.the-variants.{None, Some}
 use Rattle.lts.specs.Copying.{total}
 use Rattle.lts.specs.Meaning.{Meaning, Lawful}
 use Rattle.theory.specs.Formulas.{Formula}
-use Rattle.shelves.specs.Account.{Alike, Least, Filled, Account, new, with-slot, fresh, with-pending, with-claim, released, withdrawn, one-made}
+use Rattle.accounts.specs.Account.{Alike, Least, Filled, Account, new, with-slot, fresh, with-pending, with-claim, released, withdrawn, one-made}
 
 -- A call with its arguments. A source is its meaning; a submission also has so many places for lines and for classes; a
 -- clearance is its three numbers.

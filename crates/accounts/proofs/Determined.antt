@@ -6,9 +6,9 @@ use mathlib.Core.Path.{_≡_, refl, sym, ap, subst, _∙_}
 use Rattle.std.specs.declared.option.Option.{Option}
 use Rattle.std.specs.declared.option.Option.the-variants.{None, Some}
 use Rattle.lts.specs.Meaning.{Meaning}
-use Rattle.shelves.specs.Account.{Alike, Filled, Account, new, with-slot, with-pending, with-claim, released, withdrawn, one-made}
-use Rattle.shelves.specs.Calls.{Call, Answer, refusal, Event, Does, refuses, files, agrees, differs, claims, releases, withdraws, Run, start, more}
-use Rattle.shelves.specs.Law.{calls-of, Determined}
+use Rattle.accounts.specs.Account.{Alike, Filled, Account, new, with-slot, with-pending, with-claim, released, withdrawn, one-made}
+use Rattle.accounts.specs.Calls.{Call, Answer, refusal, Event, Does, refuses, files, agrees, differs, claims, releases, withdraws, Run, start, more}
+use Rattle.accounts.specs.Law.{calls-of, Determined}
 
 -- two constructors are never equal
 pub never : {X : Type 0} → _≡_ {A = ℕ} 0 1 → X

@@ -13,10 +13,10 @@ use Rattle.std.proofs.shelf.Tests.{cases-eq, eq-eqb, ne-eqb, cond-true, cond-fa
 use Rattle.lts.specs.Copying.{total}
 use Rattle.lts.specs.Meaning.{Meaning, Lawful}
 use Rattle.theory.proofs.Relations.{related-reflexive, related-symmetric, related-transitive, lawful-inside}
-use Rattle.shelves.specs.Account.{Alike, Filled, Account, new, with-slot, fresh, with-pending, with-claim, released, withdrawn, one-made}
-use Rattle.shelves.specs.Calls.{Call, file, submit, claim, release, withdraw, Answer, accepted, called-same, called-different, cleared, refused, refusal, Event, LawfulCall, Does, refuses, files, agrees, differs, claims, releases, withdraws, Run, start, more}
-use Rattle.shelves.specs.Law.{filed, or-else, first-filed}
-use Rattle.shelves.proofs.Determined.{never}
+use Rattle.accounts.specs.Account.{Alike, Filled, Account, new, with-slot, fresh, with-pending, with-claim, released, withdrawn, one-made}
+use Rattle.accounts.specs.Calls.{Call, file, submit, claim, release, withdraw, Answer, accepted, called-same, called-different, cleared, refused, refusal, Event, LawfulCall, Does, refuses, files, agrees, differs, claims, releases, withdraws, Run, start, more}
+use Rattle.accounts.specs.Law.{filed, or-else, first-filed}
+use Rattle.accounts.proofs.Determined.{never}
 
 -- alike to what is alike, over a lawful procedure
 pub alike-through : (p q r : Meaning) → Lawful 128 q → Alike p q → Alike q r → Alike p r

@@ -7,8 +7,8 @@ use lib.Dec.{eqb}
 use Rattle.std.specs.declared.option.Option.{Option}
 use Rattle.std.specs.declared.option.Option.the-variants.{None, Some}
 use Rattle.lts.specs.Meaning.{Meaning}
-use Rattle.shelves.specs.Account.{Alike, Least, Filled, Account}
-use Rattle.shelves.specs.Calls.{Call, file, submit, claim, release, withdraw, Answer, accepted, called-same, called-different, cleared, refused, refusal, Event, Run}
+use Rattle.accounts.specs.Account.{Alike, Least, Filled, Account}
+use Rattle.accounts.specs.Calls.{Call, file, submit, claim, release, withdraw, Answer, accepted, called-same, called-different, cleared, refused, refusal, Event, Run}
 
 -- what a call filed in slot s, if it is a filing there that was accepted
 abbrev pub filed : Call → Answer → ℕ → Option Meaning
