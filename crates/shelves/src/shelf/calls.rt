@@ -1,0 +1,54 @@
+// The calls on a shelf.
+ghost use mathlib.Core.Path.{_≡_};
+ghost use Rattle.accounts.specs.Account.{new};
+ghost use Rattle.accounts.specs.Calls.{file};
+ghost use Rattle.shelves.specs.Moves.{account-of, Moved, answer, Filing};
+use crate::fault::ShelfFault;
+use crate::row::Row;
+use crate::shelf::Shelf;
+use crate::slots::Slots;
+use lts::Source;
+use lts::copied;
+
+impl Shelf {
+    // A shelf with empty slots and no claim.
+    pub fn new(number: u16) -> Shelf
+        ensures { λ r. ⌜ account-of r ≡ new number ⌝ }
+    {
+        Shelf {
+            number,
+            slots: Slots { rows: [None; 8] },
+            claims: 0,
+        }
+    }
+
+    // The row that filing a source makes, or why it can't be filed.
+    fn filing<const N: usize, S: Source<N>>(&self, slot: usize, source: &S) -> Result<Row, ShelfFault>
+        ensures { λ r. ⌜ Filing (account-of (now (self .entry))) slot (meaning (now (source .entry))) r ⌝ }
+    {
+        if slot > 7 {
+            return Err(ShelfFault::Slot);
+        }
+        if self.slots.rows[slot].is_some() {
+            return Err(ShelfFault::Taken);
+        }
+        match copied(source) {
+            None => Err(ShelfFault::Steps),
+            Some(procedure) => Ok(Row {
+                baseline: procedure,
+                force: procedure,
+                pending: None,
+                latest: None,
+            }),
+        }
+    }
+
+    // Copies a source into an empty slot, as its baseline and in force.
+    pub fn file<const N: usize, S: Source<N>>(&mut self, slot: usize, source: &S) -> Result<(), ShelfFault>
+        ensures { λ r. ⌜ Moved (account-of (now (self .entry))) (file slot (meaning (now (source .entry)))) (answer r) (account-of (now (self .exit))) ⌝ }
+    {
+        let row = self.filing(slot, source)?;
+        self.slots.put(slot, row);
+        Ok(())
+    }
+}
