@@ -1,13 +1,17 @@
 -- What a call on a shelf promises.
-use Prim.Native.Nat.{ℕ, _<_}
+use Prim.Native.Nat.{ℕ, _+_, _<_}
 use mathlib.Core.Path.{_≡_}
 use mathlib.Core.List.{List, _∷_}
 use Rattle.std.specs.declared.result.Result.{Result}
 use Rattle.std.specs.declared.result.Result.the-variants.{Ok, Err}
+use mathlib.Core.Bool.{true}
+use lib.ListN.{getD}
+use Rattle.std.specs.Options.{isSome}
+use Rattle.std.specs.declared.option.Option.{Option}
 use Rattle.std.specs.declared.option.Option.the-variants.{None, Some}
 use Rattle.lts.specs.Meaning.{Meaning}
 use Rattle.accounts.specs.Account.{Account, fresh}
-use Rattle.accounts.specs.Calls.{Call, file, Answer, accepted, cleared, refused, refusal, Event, Does, Run}
+use Rattle.accounts.specs.Calls.{Call, file, claim, Answer, accepted, cleared, refused, refusal, Event, Does, Run}
 use Rattle.accounts.specs.Law.{Law}
 use Rattle.shelves.specs.Faults.{number-of}
 use Rattle.shelves.specs.Standing.{account, row-account, Keeps}
@@ -35,7 +39,16 @@ abbrev pub claim-answer : Result Clearance ShelfFault → Answer
 claim-answer (Ok c) = cleared (c .shelf) (c .slot) (c .claim)
 claim-answer (Err f) = refused (number-of f)
 
+-- a row with a new claim
+abbrev pub claimed : Row → ℕ → Row
+claimed r k = record { baseline = r .baseline; force = r .force; pending = r .pending; latest = Some k }
+
 -- what filing m in slot s makes, or its refusal
 abbrev pub Filing : Account → ℕ → Meaning → Result Row ShelfFault → Type 0
 Filing a s m (Ok row) = (refusal a (file s m) ≡ None) × (s < 8) × Keeps row × (row-account (Some row) ≡ Some (fresh m))
 Filing a s m (Err f) = refusal a (file s m) ≡ Some (number-of f)
+
+-- what a claim in slot s makes of its row, or its refusal
+abbrev pub Claiming : Account → List (Option Row) → ℕ → Result Row ShelfFault → Type 0
+Claiming a rows s (Ok row) = (refusal a (claim s) ≡ None) × (s < 8) × (a .made < 65535) × ((old : Row) × (getD rows s None ≡ Some old) × (isSome (old .pending) ≡ true) × (row ≡ claimed old (a .made + 1)))
+Claiming a rows s (Err f) = refusal a (claim s) ≡ Some (number-of f)

@@ -17,9 +17,12 @@ stored-if None = None
 stored-if (Some p) = Some (stored p)
 
 -- a row by its meanings
+abbrev pub filled : Row → Filled
+filled r = record { baseline = stored (r .baseline); force = stored (r .force); pending = stored-if (r .pending); latest = r .latest }
+
 abbrev pub row-account : Option Row → Option Filled
 row-account None = None
-row-account (Some r) = Some (record { baseline = stored (r .baseline); force = stored (r .force); pending = stored-if (r .pending); latest = r .latest })
+row-account (Some r) = Some (filled r)
 
 -- the account of a shelf with a number, rows and so many claims
 abbrev pub account : ℕ → List (Option Row) → ℕ → Account

@@ -1,8 +1,11 @@
 // The calls on a shelf.
+ghost use mathlib.Core.Bool.{false};
 ghost use mathlib.Core.Path.{_≡_};
+ghost use Rattle.std.specs.Vec.{made};
 ghost use Rattle.accounts.specs.Account.{new};
-ghost use Rattle.accounts.specs.Calls.{file};
-ghost use Rattle.shelves.specs.Moves.{account-of, Moved, answer, Filing};
+ghost use Rattle.accounts.specs.Calls.{file, claim};
+ghost use Rattle.shelves.specs.Moves.{account-of, Moved, answer, claim-answer, Filing, Claiming};
+use crate::clearance::Clearance;
 use crate::fault::ShelfFault;
 use crate::row::Row;
 use crate::shelf::Shelf;
@@ -50,5 +53,43 @@ impl Shelf {
         let row = self.filing(slot, source)?;
         self.slots.put(slot, row);
         Ok(())
+    }
+
+    // The row that a claim makes, or why there is nothing to claim.
+    fn claiming(&self, slot: usize) -> Result<Row, ShelfFault>
+        ensures { λ r. ⌜ Claiming (account-of (now (self .entry))) (now (self .entry) .slots .rows) slot r ⌝ }
+    {
+        if slot > 7 {
+            return Err(ShelfFault::Slot);
+        }
+        let Some(row) = self.slots.rows[slot] else {
+            return Err(ShelfFault::Empty);
+        };
+        if row.pending.is_none() {
+            return Err(ShelfFault::Nothing);
+        }
+        if self.claims >= 65535 {
+            return Err(ShelfFault::Claims);
+        }
+        Ok(Row {
+            latest: Some(self.claims + 1),
+            ..row
+        })
+    }
+
+    // Hands out a clearance for the pending procedure.
+    pub fn claim(&mut self, slot: usize) -> Result<Clearance, ShelfFault>
+        ensures moved { λ r. ⌜ Moved (account-of (now (self .entry))) (claim slot) (claim-answer r) (account-of (now (self .exit))) ⌝ }
+        ensures unspent { λ r. ⌜ made r (λ c. c .spent ≡ false) ⌝ }
+    {
+        let row = self.claiming(slot)?;
+        self.claims += 1;
+        self.slots.put(slot, row);
+        Ok(Clearance {
+            shelf: self.number,
+            slot: slot as u8,
+            claim: self.claims,
+            spent: false,
+        })
     }
 }

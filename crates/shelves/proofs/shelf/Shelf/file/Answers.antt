@@ -15,7 +15,7 @@ ghost-self g c =
     let x = c .args .self .now in
     let m = g .S·Source .meaning (c .args .source .now) in
     let f = c .in-Continue-row .ensures tt in
-    put-ghost (x .number) (x .claims) (x .claims) (x .slots .rows) (c .put .last .self .rows) (c .args .slot) (c .in-Continue-row .row) (fresh m) (file (c .args .slot) m) accepted (f .1) (x .room) (c .put .ensures) (f .3) (lawful-most (g .N) m (g .S·Source .bounded) (g .S·Source .lawful (c .args .source .now))) (files (f .0)) (f .2) (x .kept) (x .reached)
+    put-ghost (x .number) (x .claims) (x .claims) (x .slots .rows) (c .put .last .self .rows) (c .args .slot) (c .in-Continue-row .row) (fresh m) (file (c .args .slot) m) accepted (f .1) (x .room) (c .put .ensures) (f .3) (lawful-most (g .N) m (g .S·Source .bounded) (g .S·Source .lawful (c .args .source .now))) (files (f .0)) (λ _. f .2) (x .kept) (x .reached)
 
 pub returns : need.returns
 returns g c =
