@@ -28,6 +28,7 @@ module _ (n made : ℕ) (rows : List (Option Row)) (s : ℕ) (row : Row) (x : Fi
     where
       here : t ≡ s → row-account (getD (set rows s (Some row)) t None) ≡ cond (eqb t s) (Some x) (row-account (getD rows t None))
       here e = rw (eq-eqb t s e) (rw e (ap row-account (getD-set-same rows s (Some row) None (omega arith)) ∙ means))
+
       there : (t ≡ s → ⊥) → row-account (getD (set rows s (Some row)) t None) ≡ cond (eqb t s) (Some x) (row-account (getD rows t None))
       there e = rw (ne-eqb t s e) (ap row-account (getD-set-other rows s t (Some row) None e))
 
@@ -39,6 +40,7 @@ put-kept rows s row l new old t r e = ⊎-elim here there (cases-eq t s)
   where
     here : t ≡ s → Keeps r
     here q = let g = getD-set-same rows s (Some row) None l in let f : getD (set rows s (Some row)) s None ≡ Some r = rw q at e in let z : row ≡ r = cc in subst Keeps z new
+
     there : (t ≡ s → ⊥) → Keeps r
     there q = old t r (sym (getD-set-other rows s t (Some row) None q) ∙ e)
 
@@ -64,11 +66,16 @@ module _ (n made made′ : ℕ) (rows rows′ : List (Option Row)) (s : ℕ) (ro
   put-does = subst (λ a. Does (account n rows made) c r a) (sym (ap (λ zs. account n zs made′) put ∙ put-account n made′ rows s row x inside room means)) does
 
   pub put-ghost : (AllKept rows → Keeps row) → ∥ AllKept rows ∥₁ → ∥ Reached n rows made ∥₁ → (length rows′ ≡ 8) × (∥ AllKept rows′ ∥₁ × (∥ Reached n rows′ made′ ∥₁ × Unit {0}))
-  put-ghost keeps kept reached =
-      ( ap length put ∙ (length-set rows s (Some row) ∙ room)
-      , ( ∥∥₁-map {B = AllKept rows′} kept (λ k. subst AllKept (sym put) (put-kept rows s row (omega arith) (keeps k) k))
-      , ( ∥∥₁-map {B = Reached n rows′ made′} reached (reached-more n made made′ rows rows′ c r lawful put-does)
-      , tt )))
+  put-ghost keeps kept reached = (
+    ap length put ∙ (length-set rows s (Some row) ∙ room),
+    (
+      ∥∥₁-map {B = AllKept rows′} kept (λ k. subst AllKept (sym put) (put-kept rows s row (omega arith) (keeps k) k)),
+      (
+        ∥∥₁-map {B = Reached n rows′ made′} reached (reached-more n made made′ rows rows′ c r lawful put-does),
+        tt,
+      ),
+    ),
+  )
 
 -- a row with a new claim keeps what the old one kept
 pub claimed-keeps : (rows : List (Option Row)) (s k : ℕ) (old row : Row) → getD rows s None ≡ Some old → isSome (old .pending) ≡ true → row ≡ claimed old k → AllKept rows → Keeps row

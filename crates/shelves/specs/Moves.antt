@@ -4,14 +4,15 @@ use mathlib.Core.Path.{_≡_}
 use mathlib.Core.List.{List, _∷_}
 use Rattle.std.specs.declared.result.Result.{Result}
 use Rattle.std.specs.declared.result.Result.the-variants.{Ok, Err}
-use mathlib.Core.Bool.{true}
+use mathlib.Core.Bool.{true, false}
 use lib.ListN.{getD}
 use Rattle.std.specs.Options.{isSome}
 use Rattle.std.specs.declared.option.Option.{Option}
 use Rattle.std.specs.declared.option.Option.the-variants.{None, Some}
 use Rattle.lts.specs.Meaning.{Meaning}
+use Rattle.lts.specs.declared.procedure.Procedure.{Procedure}
 use Rattle.accounts.specs.Account.{Account, fresh}
-use Rattle.accounts.specs.Calls.{Call, file, claim, Answer, accepted, cleared, refused, refusal, Event, Does, Run}
+use Rattle.accounts.specs.Calls.{Call, file, claim, release, withdraw, clears, Answer, accepted, cleared, refused, refusal, Event, Does, Run}
 use Rattle.accounts.specs.Law.{Law}
 use Rattle.shelves.specs.Faults.{number-of}
 use Rattle.shelves.specs.Standing.{account, row-account, Keeps}
@@ -52,3 +53,18 @@ Filing a s m (Err f) = refusal a (file s m) ≡ Some (number-of f)
 abbrev pub Claiming : Account → List (Option Row) → ℕ → Result Row ShelfFault → Type 0
 Claiming a rows s (Ok row) = (refusal a (claim s) ≡ None) × (s < 8) × (a .made < 65535) × ((old : Row) × (getD rows s None ≡ Some old) × (isSome (old .pending) ≡ true) × (row ≡ claimed old (a .made + 1)))
 Claiming a rows s (Err f) = refusal a (claim s) ≡ Some (number-of f)
+
+-- a clearance that was spent
+abbrev pub used-up : Clearance → Clearance
+used-up c = record { shelf = c .shelf; slot = c .slot; claim = c .claim; spent = true }
+
+abbrev pub release-by : Clearance → Call
+release-by c = release (c .shelf) (c .slot) (c .claim)
+
+abbrev pub withdraw-by : Clearance → Call
+withdraw-by c = withdraw (c .shelf) (c .slot) (c .claim)
+
+-- the row of a clearance that is the slot's latest, with its pending procedure
+abbrev pub Cleared : Shelf → Clearance → Option (Row × Procedure) → Type 0
+Cleared x c None = clears (account-of x) (c .shelf) (c .slot) (c .claim) ≡ false
+Cleared x c (Some v) = (clears (account-of x) (c .shelf) (c .slot) (c .claim) ≡ true) × (c .slot < 8) × (getD (x .slots .rows) (c .slot) None ≡ Some (v .0)) × (v .0 .pending ≡ Some (v .1))

@@ -4,12 +4,13 @@ ghost use mathlib.Core.Path.{_≡_};
 ghost use Rattle.std.specs.Vec.{made};
 ghost use Rattle.accounts.specs.Account.{new};
 ghost use Rattle.accounts.specs.Calls.{file, claim};
-ghost use Rattle.shelves.specs.Moves.{account-of, Moved, answer, claim-answer, Filing, Claiming};
+ghost use Rattle.shelves.specs.Moves.{account-of, Moved, answer, claim-answer, Filing, Claiming, Cleared, release-by, withdraw-by, used-up};
 use crate::clearance::Clearance;
 use crate::fault::ShelfFault;
 use crate::row::Row;
 use crate::shelf::Shelf;
 use crate::slots::Slots;
+use lts::Procedure;
 use lts::Source;
 use lts::copied;
 
@@ -26,7 +27,11 @@ impl Shelf {
     }
 
     // The row that filing a source makes, or why it can't be filed.
-    fn filing<const N: usize, S: Source<N>>(&self, slot: usize, source: &S) -> Result<Row, ShelfFault>
+    fn filing<const N: usize, S: Source<N>>(
+        &self,
+        slot: usize,
+        source: &S,
+    ) -> Result<Row, ShelfFault>
         ensures { λ r. ⌜ Filing (account-of (now (self .entry))) slot (meaning (now (source .entry))) r ⌝ }
     {
         if slot > 7 {
@@ -47,7 +52,11 @@ impl Shelf {
     }
 
     // Copies a source into an empty slot, as its baseline and in force.
-    pub fn file<const N: usize, S: Source<N>>(&mut self, slot: usize, source: &S) -> Result<(), ShelfFault>
+    pub fn file<const N: usize, S: Source<N>>(
+        &mut self,
+        slot: usize,
+        source: &S,
+    ) -> Result<(), ShelfFault>
         ensures { λ r. ⌜ Moved (account-of (now (self .entry))) (file slot (meaning (now (source .entry)))) (answer r) (account-of (now (self .exit))) ⌝ }
     {
         let row = self.filing(slot, source)?;
@@ -91,5 +100,64 @@ impl Shelf {
             claim: self.claims,
             spent: false,
         })
+    }
+
+    // The row that a clearance is for, and its pending procedure; nothing where the clearance isn't the slot's latest.
+    fn cleared(&self, clearance: &Clearance) -> Option<(Row, Procedure)>
+        ensures { λ r. ⌜ Cleared (now (self .entry)) (now (clearance .entry)) r ⌝ }
+    {
+        let slot = clearance.slot as usize;
+        if clearance.shelf != self.number {
+            return None;
+        }
+        if slot > 7 {
+            return None;
+        }
+        let row = self.slots.rows[slot]?;
+        let latest = row.latest?;
+        let procedure = row.pending?;
+        if latest != clearance.claim {
+            return None;
+        }
+        Some((row, procedure))
+    }
+
+    // Moves the pending procedure of a clearance into force.
+    pub fn release(&mut self, clearance: &mut Clearance) -> Result<(), ShelfFault>
+        requires { ⌜ now clearance .spent ≡ false ⌝ }
+        ensures moved { λ r. ⌜ Moved (account-of (now (self .entry))) (release-by (now (clearance .entry))) (answer r) (account-of (now (self .exit))) ⌝ }
+        ensures spent { λ _. ⌜ now (clearance .exit) ≡ used-up (now (clearance .entry)) ⌝ }
+    {
+        clearance.spent = true;
+        let Some((row, procedure)) = self.cleared(clearance) else {
+            return Err(ShelfFault::Clearance);
+        };
+        let row = Row {
+            force: procedure,
+            pending: None,
+            latest: None,
+            ..row
+        };
+        self.slots.put(clearance.slot as usize, row);
+        Ok(())
+    }
+
+    // Drops the pending procedure of a clearance.
+    pub fn withdraw(&mut self, clearance: &mut Clearance) -> Result<(), ShelfFault>
+        requires { ⌜ now clearance .spent ≡ false ⌝ }
+        ensures moved { λ r. ⌜ Moved (account-of (now (self .entry))) (withdraw-by (now (clearance .entry))) (answer r) (account-of (now (self .exit))) ⌝ }
+        ensures spent { λ _. ⌜ now (clearance .exit) ≡ used-up (now (clearance .entry)) ⌝ }
+    {
+        clearance.spent = true;
+        let Some((row, _)) = self.cleared(clearance) else {
+            return Err(ShelfFault::Clearance);
+        };
+        let row = Row {
+            pending: None,
+            latest: None,
+            ..row
+        };
+        self.slots.put(clearance.slot as usize, row);
+        Ok(())
     }
 }
