@@ -16,7 +16,7 @@ mark-line-requires g c κs =
     let ls = c .args .lines .now in
     let room = length (c .args .work .now) in
     let a = admitted ls (c .args .line) (c .args .state) (m .count) room (c .in-rest .ensures tt) in
-    record { wellformed = a .wellformed; few = a .few; inside = c .loop-k-test .taken; room = omega (arith, a .fits); marked = c .loop-k .inv .0 }
+    record { wellformed = a .wellformed; few = a .few; inside = omega arith; room = omega (arith, a .fits); marked = c .loop-k .inv .0 }
 
 pub index-work-line : need.index-work-line
 index-work-line g c =

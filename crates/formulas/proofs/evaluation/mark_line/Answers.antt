@@ -1,4 +1,5 @@
 use native.Mathlib.Omega.{arith}
+use Prim.Native.Nat.{_<_}
 use mathlib.Core.Path.{_≡_}
 use lib.ListN.{length}
 use Rattle.theory.specs.Formulas.{Holds}
@@ -10,7 +11,7 @@ use Rattle.formulas.proofs.evaluation.mark_line.Needs as need
 pub index-work-k : need.index-work-k
 index-work-k g c =
     let e = c .states-n .ensures in
-    place-in-table (c .args .k) (c .loop-s .s) (length (c .args .lines .now)) (g .S·Source .meaning (c .args .source .now) .count) (c .states-n .result) (length (c .loop-s .work)) e (c .pre .inside) (c .loop-s-test .taken) (omega (arith, c .pre .room))
+    place-in-table (c .args .k) (c .loop-s .s) (length (c .args .lines .now)) (g .S·Source .meaning (c .args .source .now) .count) (c .states-n .result) (length (c .loop-s .work)) e (c .pre .inside) (omega arith) (omega (arith, c .pre .room))
 
 pub loop-s-again : need.loop-s-again
 loop-s-again g c =
@@ -22,7 +23,7 @@ loop-s-again g c =
     let n = c .states-n .result in
     let w = c .loop-s .work in
     let e = c .states-n .ensures in
-    let l = c .loop-s-test .taken in
+    let l : s < n = omega arith in
     let new : Marks x (Holds m s (formula ls k)) = rw (c .from .ensures) (mark-of (c .holds .result) (Holds m s (formula ls k)) (c .holds .ensures)) in
     let room = index-work-k g c in
     (write-after m ls k s x n w e l (c .loop-s .inv .0), write-next m ls k s x n w e l room new (c .loop-s .inv .1), write-keeps m ls k s x n w e l (c .pre .inside) (c .args .work .now) (c .loop-s .inv .2))
