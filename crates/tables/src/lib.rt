@@ -1,0 +1,12 @@
+// Table files: records of a length, a kind and a body; and the procedure that they draw.
+pub mod fault;
+pub mod record;
+pub mod records;
+
+pub use fault::RecordFault;
+pub use fault::RecordFaultTold;
+pub use fault::TableFault;
+pub use fault::TableFaultFromRecord;
+pub use fault::TableFaultTold;
+pub use record::Record;
+pub use records::Records;
