@@ -1,7 +1,9 @@
 // Table files: records of a length, a kind and a body; and the procedure that they draw.
+mod draft;
 pub mod fault;
 pub mod record;
 pub mod records;
+mod step;
 
 pub use fault::RecordFault;
 pub use fault::RecordFaultTold;
