@@ -1,1 +1,4 @@
+pub mod Entries
 pub mod Taking
+pub mod Grouping
+pub mod Progress

@@ -6,3 +6,4 @@ pub mod Reading
 pub mod Drawing
 pub mod Rows
 pub mod Drafts
+pub mod Tables

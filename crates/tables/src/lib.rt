@@ -4,6 +4,7 @@ pub mod fault;
 pub mod record;
 pub mod records;
 mod step;
+pub mod table;
 
 pub use fault::RecordFault;
 pub use fault::RecordFaultTold;
@@ -12,3 +13,5 @@ pub use fault::TableFaultFromRecord;
 pub use fault::TableFaultTold;
 pub use record::Record;
 pub use records::Records;
+pub use table::Table;
+pub use table::TableSource;
