@@ -34,8 +34,8 @@ pub enum TableFault {
 pub impl From<RecordFault> for TableFault as TableFaultFromRecord {
     ghost converts = { λ f r. r ≡ TableFault.Record f };
 
-    fn from(fault: RecordFault) -> TableFault {
-        TableFault::Record(fault)
+    fn from(whole: RecordFault) -> TableFault {
+        TableFault::Record(whole)
     }
 }
 

@@ -5,6 +5,8 @@ pub mod record;
 pub mod records;
 mod step;
 pub mod table;
+#[cfg(test)]
+mod tests;
 
 pub use fault::RecordFault;
 pub use fault::RecordFaultTold;

@@ -1,5 +1,4 @@
 // One record of a file.
-ghost use Prim.Native.Nat.{ℕ};
 ghost use mathlib.Core.Path.{_≡_};
 ghost use Rattle.tables.specs.Kinds.{sort};
 ghost use Rattle.tables.specs.Lent.{kind-of, body-of};
@@ -17,7 +16,7 @@ pub enum Record<'a> {
 
 impl<'a> Record<'a> {
     // The record of a kind, by its number.
-    pub fn new(kind: u16, body: &'a [u8]) -> Record<'a>
+    pub(crate) fn new(kind: u16, body: &'a [u8]) -> Record<'a>
         ensures kind { λ r. ⌜ kind-of r ≡ sort kind ⌝ }
         ensures body { λ r. ⌜ body-of r ≡ now (body .entry) ⌝ }
     {

@@ -8,6 +8,7 @@ mod source;
 use lts::Procedure;
 pub use source::TableSource;
 
+#[derive(Drop)]
 pub struct Table {
     procedure: Procedure,
     ghost some: { 1 ≤ procedure .states },

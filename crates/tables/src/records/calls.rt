@@ -50,11 +50,4 @@ impl<'a> Records<'a> {
         self.next = at + 4 + size;
         Ok(Some(record))
     }
-
-    // The offset of the length of the record last read.
-    pub fn offset(&self) -> usize
-        ensures { λ r. ⌜ r ≡ now (self .entry) .offset ⌝ }
-    {
-        self.offset
-    }
 }
