@@ -1,10 +1,10 @@
 -- Reading a table file: what holds after each record, and at the end.
-use Prim.Native.Nat.{ℕ, _+_, _≤_, _<_}
+use Prim.Native.Nat.{ℕ, _≤_, _<_}
 use native.Mathlib.Omega.{arith}
-use mathlib.Core.Bool.{Bool, true, false, cond, _&&_}
+use mathlib.Core.Bool.{false, _&&_}
 use mathlib.Core.List.{List, [], _∷_, _++_, append-nil, append-assoc}
 use mathlib.Core.Logic.{⊎-elim}
-use mathlib.Core.Path.{_≡_, refl, sym, ap, subst, _∙_}
+use mathlib.Core.Path.{_≡_, sym, ap, subst, _∙_}
 use denote.Ref.{now}
 use lib.Dec.{ltb}
 use lib.ListN.{length, getD}
@@ -14,24 +14,25 @@ use Rattle.std.specs.declared.option.Option.the-variants.{None, Some}
 use Rattle.std.specs.declared.result.Result.{Result}
 use Rattle.std.specs.declared.result.Result.the-variants.{Ok, Err}
 use Rattle.std.proofs.shelf.Tests.{lt-ltb, le-ltb, cases-lt}
-use Rattle.lts.specs.Meaning.{Meaning}
 use Rattle.lts.specs.Layout.{stored}
 use Rattle.lts.specs.declared.procedure.Procedure.{Procedure}
 use Rattle.lts.specs.Laws.Same.{same-meaning}
-use Rattle.tables.specs.Records.{Rec, Entry, whole, damaged, entry-at, behind, entries, wholes, records-of}
+use Rattle.tables.specs.Records.{Rec, whole, damaged, entry-at, behind, entries, wholes, records-of}
 use Rattle.tables.specs.Drawing.{table-meaning, ended, out-of}
 use Rattle.tables.specs.Rows.{fault, or-else, refused, first-refusal}
 use Rattle.tables.specs.Drafts.{Draws, Begun, Taken, drafted}
+use Rattle.tables.specs.Laid.{Laid}
 use Rattle.tables.specs.Lent.{rec-of}
 use Rattle.tables.specs.Reading.{Opened, Passed, Answered}
 use Rattle.tables.specs.Tables.{meaning-of, refusal-of}
 use Rattle.tables.specs.declared.draft.Draft.{Draft}
 use Rattle.tables.specs.declared.fault.TableFault.{TableFault}
-use Rattle.tables.specs.declared.fault.TableFault.the-variants.{Record, Head}
+use Rattle.tables.specs.declared.fault.TableFault.the-variants.{Record}
 use Rattle.tables.specs.declared.fault.RecordFault.{RecordFault}
 use Rattle.tables.specs.declared.record.Record.{Record as Lent}
 use Rattle.tables.specs.declared.records.Records.{Records}
 use Rattle.tables.specs.declared.table.Table.{Table}
+use Rattle.tables.proofs.Placing.{accepted-whole, whole-laid}
 use Rattle.tables.proofs.Entries.{left, left-all, left-more, left-none}
 
 -- the records before an offset
@@ -119,19 +120,19 @@ draft-means h rs d w = same-meaning (drafted d) (table-meaning (h ∷ rs)) (w .s
 
 -- what reading a file promises of its answer
 abbrev pub Promised : List ℕ → Result Table TableFault → Type 0
-Promised file r = record { refuses : refusal-of r ≡ first-refusal file; draws : made r (λ t. meaning-of t ≡ table-meaning (records-of file)) }
+Promised file r = record { refuses : refusal-of r ≡ first-refusal file; laid : made r (λ t. Laid 0 (records-of file) file); draws : made r (λ t. meaning-of t ≡ table-meaning (records-of file)) }
 
 short-refusal : (file : List ℕ) (o : Option TableFault) → length file ≤ 16384 → refused [] (entries file) ≡ o → o ≡ first-refusal file
 short-refusal file o l e = rw (le-ltb 16384 (length file) l) (sym e)
 
 pub refused-promised : (file : List ℕ) (f : TableFault) → length file ≤ 16384 → refused [] (entries file) ≡ Some f → Promised file (Err f)
-refused-promised file f l e = record { refuses = short-refusal file (Some f) l e; draws = tt }
+refused-promised file f l e = record { refuses = short-refusal file (Some f) l e; laid = tt; draws = tt }
 
 -- every record was accepted
-pub accepted-promised : (file : List ℕ) (r : Records) (d : Draft) (p : Procedure) → length file ≤ 16384 → length (now (r .bytes)) ≡ r .next → Progress file r d → stored p ≡ drafted d → record { refuses : _≡_ {A = Option TableFault} None (first-refusal file); draws : stored p ≡ table-meaning (records-of file) }
+pub accepted-promised : (file : List ℕ) (r : Records) (d : Draft) (p : Procedure) → length file ≤ 16384 → length (now (r .bytes)) ≡ r .next → Progress file r d → stored p ≡ drafted d → record { refuses : _≡_ {A = Option TableFault} None (first-refusal file); laid : Laid 0 (records-of file) file; draws : stored p ≡ table-meaning (records-of file) }
 accepted-promised file r d p short all g e =
     let h = g .first in
     let rs = g .more in
     let n : length file ≡ r .next = rw (g .same) at all in
     let end = at-end file (r .next) (h ∷ rs) (g .before) (omega arith) in
-    record { refuses = short-refusal file None short (sym (end .0)); draws = e ∙ (draft-means h rs d (g .draws) ∙ ap table-meaning (end .1)) }
+    record { refuses = short-refusal file None short (sym (end .0)); laid = whole-laid file (accepted-whole [] (entries file) (end .0)); draws = e ∙ (draft-means h rs d (g .draws) ∙ ap table-meaning (end .1)) }

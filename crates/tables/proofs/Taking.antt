@@ -1,20 +1,19 @@
 -- A draft takes in one record after another.
-use Prim.Native.Nat.{ℕ, suc, _+_, _≤_, _<_}
+use Prim.Native.Nat.{ℕ, _+_, _≤_, _<_}
 use native.Mathlib.Omega.{arith}
-use native.Mathlib.Numerals.{add-one}
-use mathlib.Core.Bool.{Bool, true, false, cond, not, _&&_, _||_}
+use mathlib.Core.Bool.{Bool, true, false, _||_}
 use mathlib.Core.List.{List, [], _∷_, _++_, append-nil, append-assoc}
-use mathlib.Core.Logic.{_⊎_, inl, inr, ⊎-elim, _≢_}
+use mathlib.Core.Logic.{_⊎_, inl, inr, ⊎-elim}
 use mathlib.Core.Path.{_≡_, refl, sym, ap, subst, _∙_}
-use lib.Dec.{eqb, leb, ltb}
+use lib.Dec.{eqb}
 use lib.ListN.{length, getD, set, take, length-set}
 use lib.Seq.{getD-set-same, getD-set-other}
-use Rattle.std.specs.declared.option.Option.the-variants.{None, Some}
+use Rattle.std.specs.declared.option.Option.the-variants.{None}
 use Rattle.std.proofs.shelf.Lists.{take-more-set, length-take-le}
-use Rattle.std.proofs.shelf.Tests.{lt-ltb, le-ltb, lt-leb, le-leb, eq-eqb, ne-eqb, cases-eq, or-right}
+use Rattle.std.proofs.shelf.Tests.{le-ltb, lt-leb, eq-eqb, ne-eqb, cases-eq, or-right}
 use Rattle.lts.specs.Meaning.{In}
 use Rattle.lts.specs.Laws.Member.{in-either}
-use Rattle.tables.specs.Kinds.{Kind, head, end, step, remark, unknown}
+use Rattle.tables.specs.Kinds.{head, end, step, remark}
 use Rattle.tables.specs.Drawing.{byte, ended, names-end, steps-of, step-of}
 use Rattle.tables.specs.Records.{Rec}
 use Rattle.tables.specs.Rows.{fault}

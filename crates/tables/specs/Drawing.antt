@@ -1,11 +1,12 @@
 -- The procedure that the records of a file draw.
 use Prim.Native.Nat.{ℕ}
-use mathlib.Core.Bool.{Bool, false, cond, _||_}
+use mathlib.Core.Bool.{Bool, false, _||_}
 use mathlib.Core.List.{List, [], _∷_, _++_, map}
+use mathlib.Core.Path.{_≡_}
 use lib.Dec.{eqb}
 use lib.ListN.{getD}
 use Rattle.std.specs.shelf.Lists.{kept-by}
-use Rattle.lts.specs.Meaning.{Meaning}
+use Rattle.lts.specs.Meaning.{Meaning, In}
 use Rattle.tables.specs.Kinds.{Kind, head, end, step, remark, unknown}
 use Rattle.tables.specs.Records.{Rec}
 use Rattle.tables.specs.declared.step.Step.{Step}
@@ -26,10 +27,14 @@ names-end s step body = false
 names-end s remark body = false
 names-end s (unknown k) body = false
 
--- some end record names state s
+-- whether some end record names state s
 abbrev pub ended : ℕ → List Rec → Bool
 ended s [] = false
 ended s (r ∷ rs) = names-end s (r .kind) (r .body) || ended s rs
+
+-- an end record that names state s stands among these
+abbrev pub Named : ℕ → List Rec → Type 0
+Named s rs = (r : Rec) × In r rs × (r .kind ≡ end) × (byte (r .body) 0 ≡ s)
 
 -- the step of a step record: from, action, to
 abbrev pub step-of : Kind → List ℕ → List Step

@@ -1,6 +1,7 @@
 // Table files: records of a length, a kind and a body; and the procedure that they draw.
 mod draft;
 pub mod fault;
+pub mod laws;
 pub mod record;
 pub mod records;
 mod step;

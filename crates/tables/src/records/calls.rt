@@ -1,5 +1,5 @@
 // How a file is read, one record after another.
-ghost use Prim.Native.Nat.{ℕ, _+_, _<_};
+ghost use Prim.Native.Nat.{_+_, _<_};
 ghost use lib.ListN.{length};
 ghost use mathlib.Core.Path.{_≡_};
 ghost use Rattle.tables.specs.Reading.{Opened, Answered};

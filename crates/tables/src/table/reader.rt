@@ -2,6 +2,7 @@
 ghost use mathlib.Core.Path.{_≡_};
 ghost use Rattle.std.specs.Vec.{made};
 ghost use Rattle.tables.specs.Drawing.{table-meaning};
+ghost use Rattle.tables.specs.Laid.{Laid};
 ghost use Rattle.tables.specs.Records.{records-of};
 ghost use Rattle.tables.specs.Rows.{first-refusal};
 ghost use Rattle.tables.specs.Tables.{meaning-of, refusal-of};
@@ -15,6 +16,7 @@ impl Table {
     // Reads a file: the table that its records draw, or its first refusal.
     pub fn read(bytes: &[u8]) -> Result<Table, TableFault>
         ensures refuses { λ r. ⌜ refusal-of r ≡ first-refusal (now (bytes .entry)) ⌝ }
+        ensures laid { λ r. ⌜ made r (λ t. Laid 0 (records-of (now (bytes .entry))) (now (bytes .entry))) ⌝ }
         ensures draws { λ r. ⌜ made r (λ t. meaning-of t ≡ table-meaning (records-of (now (bytes .entry)))) ⌝ }
     {
         if bytes.len() > 16384 {
