@@ -42,6 +42,7 @@ module _ (file : List ℕ) where
   abbrev pub entries : List Entry
   entries = entries-from (length file) 0
 
+-- the records among the entries
 abbrev pub wholes : List Entry → List Rec
 wholes [] = []
 wholes (whole r ∷ es) = r ∷ wholes es

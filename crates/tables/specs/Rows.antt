@@ -56,11 +56,12 @@ fault before r =
     (cond (outside before (r .kind) (r .body)) (Some (Range (r .place)))
     (cond (crowded before (r .kind)) (Some (Steps (r .place))) None)))
 
+-- the first of two
 abbrev pub or-else : Option TableFault → Option TableFault → Option TableFault
 or-else None g = g
 or-else (Some f) g = Some f
 
--- the first refusal of what follows the records before
+-- the first refusal of what follows the records before; a file without records lacks its head
 abbrev pub refused : List Rec → List Entry → Option TableFault
 refused [] [] = Some (Head 0)
 refused (r ∷ rs) [] = None

@@ -14,7 +14,7 @@ pub enum RecordFault {
     Cut(usize),
 }
 
-// Each but the first with the offset of the record that is refused.
+// Long stands for the whole file; the others tell the offset of the record that is refused.
 #[derive(Clone, Copy, PartialEq, Eq, Debug)]
 pub enum TableFault {
     // The file has over 16,384 bytes.

@@ -1,12 +1,14 @@
 // Files at every row and edge, and what a table answers.
-use crate::fault::TableFault;
 use crate::fault::TableFaultDebug;
-use crate::fault::TableFaultPartialEq;
 use crate::fault::TableFaultTold;
 use crate::table::Table;
 use crate::table::TableSource;
 use lts::Source;
 use refusals::Fault;
+use refusals::Layer;
+use refusals::Refusal;
+use refusals::RefusalDebug;
+use refusals::RefusalPartialEq;
 use std::test::*;
 
 // Each case: the number of the refusal, or 0, and its place; the length of the file, and the file.
@@ -45,15 +47,26 @@ const CASES: &[u8] = b"\
     \x00\x00\x0f\x01\x00\x01\x00\x01\x00\x00\x04\x00\x02\x00\x04\x00\x01\x02\
 ";
 
-// The number and the place of a file's refusal.
-fn told(file: &[u8]) -> (u8, usize) {
+// What a file's refusal tells, if it is refused.
+fn told(file: &[u8]) -> Option<Refusal> {
     match Table::read(file) {
-        Ok(_) => (0, 0),
-        Err(fault) => {
-            let refusal = fault.refusal();
-            (refusal.number, refusal.place.unwrap_or(0))
-        }
+        Ok(_) => None,
+        Err(fault) => Some(fault.refusal()),
     }
+}
+
+// The refusal of this number, of a record or of the table; number 0 is none.
+fn row(number: u8, place: usize) -> Option<Refusal> {
+    let layer = match number {
+        0 => return None,
+        1..=2 => Layer::Record,
+        _ => Layer::Table,
+    };
+    Some(Refusal {
+        number,
+        layer,
+        place: Some(place),
+    })
 }
 
 #[test]
@@ -62,9 +75,7 @@ fn files_are_refused_by_the_first_row() -> Result<(), Fail> {
     while let [number, place, size, rest @ ..] = left {
         let size = *size as usize;
         check(size <= rest.len())?;
-        let (row, at) = told(&rest[0..size]);
-        check_eq(row, *number)?;
-        check_eq(at, *place as usize)?;
+        check_eq(told(&rest[0..size]), row(*number, *place as usize))?;
         left = &rest[size..];
     }
     check(left.len() == 0)
@@ -102,13 +113,13 @@ fn the_largest_files_are_read() -> Result<(), Fail> {
         file[5 + 7 * i] = 3;
         file[7 + 7 * i] = 3;
     }
-    check(told(&file[0..3589]) == (0, 0))?;
-    check(told(&file[0..3596]) == (6, 3589))?;
+    check_eq(told(&file[0..3589]), row(0, 0))?;
+    check_eq(told(&file[0..3596]), row(6, 3589))?;
     file[3595] = 1;
-    check(told(&file[0..3596]) == (5, 3589))?;
+    check_eq(told(&file[0..3596]), row(5, 3589))?;
     file[5] = 0xf7;
     file[6] = 0x3f;
     file[7] = 4;
-    check(told(&file[0..16384]) == (0, 0))?;
-    check(told(&file) == (7, 0))
+    check_eq(told(&file[0..16384]), row(0, 0))?;
+    check_eq(told(&file), row(7, 0))
 }
