@@ -9,7 +9,7 @@ use lib.Dec.{eqb, leb, ltb}
 use lib.ListN.{length, length-append}
 use Rattle.std.specs.declared.option.Option.{Option}
 use Rattle.std.specs.declared.option.Option.the-variants.{None, Some}
-use Rattle.std.proofs.shelf.Tests.{eqb-true, eq-eqb, ltb-false, leb-false, le-ltb, lt-leb, or-parts, not-false, cases-lt, lt-ltb}
+use Rattle.std.proofs.shelf.Tests.{true≢false, eqb-true, eq-eqb, ltb-false, leb-false, le-ltb, lt-leb, or-parts, not-false, cases-lt, lt-ltb}
 use Rattle.lts.specs.Meaning.{In}
 use Rattle.tables.specs.Drawing.{byte, step-of, steps-of}
 use Rattle.tables.specs.Kinds.{Kind, head, end, step, remark, unknown}
@@ -39,7 +39,7 @@ Room before k body = before ≤ 512 → before + length (step-of k body) ≤ 512
 module _ (h : Rec) (before : List Rec) where
   fits-kind : (k : Kind) (body : List ℕ) → misplaced (h ∷ before) k ≡ false → misformed k (length body) ≡ false → outside (h ∷ before) k body ≡ false → crowded (h ∷ before) k ≡ false → Fits (byte (h .body) 0) k body × Room (length (steps-of (h ∷ before))) k body
   unfolding Room
-  fits-kind head body a b c d = let z : _≡_ {A = ℕ} 0 1 = cc in let n : ⊥ = omega arith in absurd n
+  fits-kind head body a b c d = absurd (true≢false a)
   fits-kind end body a b c d = ((eqb-true (length body) 1 (not-false (eqb (length body) 1) b), leb-false (byte (h .body) 0) (byte body 0) c), λ l. omega arith)
   fits-kind step body a b c d =
       let p = or-parts (leb (byte (h .body) 0) (byte body 0)) (ltb 63 (byte body 1) || leb (byte (h .body) 0) (byte body 2)) c in
@@ -47,7 +47,7 @@ module _ (h : Rec) (before : List Rec) where
       let r = leb-false 512 (length (steps-of (h ∷ before))) d in
       ((eqb-true (length body) 3 (not-false (eqb (length body) 3) b), leb-false (byte (h .body) 0) (byte body 0) (p .0), ltb-false 63 (byte body 1) (q .0), leb-false (byte (h .body) 0) (byte body 2) (q .1)), λ l. omega arith)
   fits-kind remark body a b c d = (tt, λ l. omega arith)
-  fits-kind (unknown k) body a b c d = let z : _≡_ {A = ℕ} 0 1 = cc in let n : ⊥ = omega arith in absurd n
+  fits-kind (unknown k) body a b c d = absurd (true≢false b)
 
   fits : (r : Rec) → fault (h ∷ before) r ≡ None → Fits (byte (h .body) 0) (r .kind) (r .body) × Room (length (steps-of (h ∷ before))) (r .kind) (r .body)
   fits r e =
@@ -101,10 +101,10 @@ head-kind : (k : Kind) (body : List ℕ) → misplaced [] k ≡ false → misfor
 head-kind head body a b c =
     let p = or-parts (ltb (byte body 0) 1) (ltb 128 (byte body 0)) c in
     (refl, eqb-true (length body) 1 (not-false (eqb (length body) 1) b), ltb-false (byte body 0) 1 (p .0), ltb-false 128 (byte body 0) (p .1))
-head-kind end body a b c = let z : _≡_ {A = ℕ} 0 1 = cc in let n : ⊥ = omega arith in absurd n
-head-kind step body a b c = let z : _≡_ {A = ℕ} 0 1 = cc in let n : ⊥ = omega arith in absurd n
-head-kind remark body a b c = let z : _≡_ {A = ℕ} 0 1 = cc in let n : ⊥ = omega arith in absurd n
-head-kind (unknown k) body a b c = let z : _≡_ {A = ℕ} 0 1 = cc in let n : ⊥ = omega arith in absurd n
+head-kind end body a b c = absurd (true≢false a)
+head-kind step body a b c = absurd (true≢false a)
+head-kind remark body a b c = absurd (true≢false a)
+head-kind (unknown k) body a b c = absurd (true≢false a)
 
 heads : (r : Rec) → fault [] r ≡ None → Heads r
 heads r e =

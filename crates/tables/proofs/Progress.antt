@@ -98,17 +98,17 @@ pub record Progress (file : List ℕ) (r : Records) (d : Draft) : Type 0 where
   pub draws : Draws first more d
   pub before : Before file (r .next) (first ∷ more)
 
-pub progress-start : (file : List ℕ) (r r′ : Records) (x : Lent) (at : ℕ) (d : Draft) → Opened file r → Passed r x r′ → at ≡ r′ .offset → Begun (rec-of at x) (Ok d) → Progress file r′ d
-progress-start file r r′ x at d o h here b =
+pub progress-start : {file : List ℕ} {r r′ : Records} {x : Lent} (at : ℕ) (d : Draft) → Opened file r → Passed r x r′ → at ≡ r′ .offset → Begun (rec-of at x) (Ok d) → Progress file r′ d
+progress-start {file} {r} {r′} {x} at d o h here b =
     record { same = h .file-is ∙ o .file-is; first = rec-of at x; more = []; draws = b .1; before = next-more file r r′ [] (o .file-is) (before-open file r o) x at h here (b .0) }
 
-pub progress-more : (file : List ℕ) (r r′ : Records) (x : Lent) (at : ℕ) (d d′ : Draft) → Progress file r d → Passed r x r′ → at ≡ r′ .offset → Taken (rec-of at x) (Ok tt) d d′ → Progress file r′ d′
-progress-more file r r′ x at d d′ p h here t =
+pub progress-more : {file : List ℕ} {r r′ : Records} {x : Lent} {d : Draft} (at : ℕ) (d′ : Draft) → Progress file r d → Passed r x r′ → at ≡ r′ .offset → Taken (rec-of at x) (Ok tt) d d′ → Progress file r′ d′
+progress-more {file} {r} {r′} {x} at d′ p h here t =
     let k = t .1 (p .first) (p .more) (p .draws) in
     record { same = h .file-is ∙ p .same; first = p .first; more = p .more ++ rec-of at x ∷ []; draws = k .1; before = next-more file r r′ (p .first ∷ p .more) (p .same) (p .before) x at h here (k .0) }
 
-pub progress-refused : (file : List ℕ) (r r′ : Records) (x : Lent) (at : ℕ) (d d′ : Draft) (f : TableFault) → Progress file r d → Passed r x r′ → at ≡ r′ .offset → Taken (rec-of at x) (Err f) d d′ → refused [] (entries file) ≡ Some f
-progress-refused file r r′ x at d d′ f p h here t =
+pub progress-refused : {file : List ℕ} {r r′ : Records} {x : Lent} {d : Draft} (at : ℕ) (d′ : Draft) (f : TableFault) → Progress file r d → Passed r x r′ → at ≡ r′ .offset → Taken (rec-of at x) (Err f) d d′ → refused [] (entries file) ≡ Some f
+progress-refused {file} {r} {r′} {x} at d′ f p h here t =
     next-refused file r r′ (p .first ∷ p .more) (p .same) (p .before) x at h here f (t (p .first) (p .more) (p .draws))
 
 -- a draft means what its records draw
@@ -129,8 +129,8 @@ pub refused-promised : (file : List ℕ) (f : TableFault) → length file ≤ 16
 refused-promised file f l e = record { refuses = short-refusal file (Some f) l e; laid = tt; draws = tt }
 
 -- every record was accepted
-pub accepted-promised : (file : List ℕ) (r : Records) (d : Draft) (p : Procedure) → length file ≤ 16384 → length (now (r .bytes)) ≡ r .next → Progress file r d → stored p ≡ drafted d → record { refuses : _≡_ {A = Option TableFault} None (first-refusal file); laid : Laid 0 (records-of file) file; draws : stored p ≡ table-meaning (records-of file) }
-accepted-promised file r d p short all g e =
+pub accepted-promised : {file : List ℕ} {r : Records} {d : Draft} (p : Procedure) → Progress file r d → length file ≤ 16384 → length (now (r .bytes)) ≡ r .next → stored p ≡ drafted d → record { refuses : _≡_ {A = Option TableFault} None (first-refusal file); laid : Laid 0 (records-of file) file; draws : stored p ≡ table-meaning (records-of file) }
+accepted-promised {file} {r} {d} p g short all e =
     let h = g .first in
     let rs = g .more in
     let n : length file ≡ r .next = rw (g .same) at all in

@@ -34,7 +34,7 @@ pub loop-record-holds : need.loop-record-holds
 loop-record-holds c =
     let r = c .new-records .result in
     let h = subst (λ x. Answered r (Ok x) (c .next .last .self)) (c .in-Some .is) (c .in-Continue-first .ensures tt) in
-    progress-start (c .args .bytes .now) r (c .next .last .self) (c .in-Some .first) (c .offset .result) (c .in-Continue-draft .draft) (c .new-records .ensures) h (c .offset .ensures) (c .in-Continue-draft .ensures tt)
+    progress-start (c .offset .result) (c .in-Continue-draft .draft) (c .new-records .ensures) h (c .offset .ensures) (c .in-Continue-draft .ensures tt)
 
 pub returns-in-Break-record : need.returns-in-Break-record
 returns-in-Break-record c =
@@ -49,7 +49,7 @@ pub loop-record-again : need.loop-record-again
 loop-record-again c =
     let r = c .loop-record .records in
     let h = subst (λ x. Answered r (Ok x) (c .next-in-loop-record .last .self)) (c .in-Some-2 .is) (c .in-Continue-record .ensures tt) in
-    progress-more (c .args .bytes .now) r (c .next-in-loop-record .last .self) (c .in-Some-2 .record) (c .offset-in-Some-2 .result) (c .loop-record .draft) (c .add .last .self) (c .loop-record .inv) h (c .offset-in-Some-2 .ensures) (c .in-Continue-add .ensures tt)
+    progress-more (c .offset-in-Some-2 .result) (c .add .last .self) (c .loop-record .inv) h (c .offset-in-Some-2 .ensures) (c .in-Continue-add .ensures tt)
 
 pub returns-in-Break-add : need.returns-in-Break-add
 returns-in-Break-add c =
@@ -59,11 +59,11 @@ returns-in-Break-add c =
     let h = subst (λ x. Answered r (Ok x) (c .next-in-loop-record .last .self)) (c .in-Some-2 .is) (c .in-Continue-record .ensures tt) in
     let f = c .in-Break-add .field-0 .0 in
     let e = err-from-errBy (c .from-residual-in-Break-add .result) (c .from-residual-in-Break-add .ensures .1) in
-    rw (e .1, e .2) (refused-promised file f short (progress-refused file r (c .next-in-loop-record .last .self) (c .in-Some-2 .record) (c .offset-in-Some-2 .result) (c .loop-record .draft) (c .add .last .self) f (c .loop-record .inv) h (c .offset-in-Some-2 .ensures) (c .in-Break-add .ensures tt)))
+    rw (e .1, e .2) (refused-promised file f short (progress-refused (c .offset-in-Some-2 .result) (c .add .last .self) f (c .loop-record .inv) h (c .offset-in-Some-2 .ensures) (c .in-Break-add .ensures tt)))
 
 pub returns : need.returns
 returns c =
     let short : length (c .args .bytes .now) ≤ 16384 = omega arith in
     let r = c .loop-record .records in
     let h = subst (λ x. Answered r (Ok x) (c .next-in-loop-record .last .self)) (c .in-rest-2 .is) (c .in-Continue-record .ensures tt) in
-    accepted-promised (c .args .bytes .now) r (c .loop-record .draft) (c .grouped .result) short (h .0) (c .loop-record .inv) (c .grouped .ensures .1)
+    accepted-promised (c .grouped .result) (c .loop-record .inv) short (h .0) (c .grouped .ensures .1)
