@@ -1,0 +1,11 @@
+pub mod Faults
+pub mod Kinds
+pub mod Records
+pub mod Laid
+pub mod Lent
+pub mod Reading
+pub mod Drawing
+pub mod Rows
+pub mod Drafts
+pub mod Tables
+pub mod Theorems
