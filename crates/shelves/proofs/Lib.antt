@@ -1,3 +1,4 @@
 pub mod Rows
 pub mod Moving
 pub mod Clearing
+pub mod Viewing
