@@ -1,0 +1,3 @@
+// Two procedures compared: the classes of their states, the rounds that tell them apart, and a formula
+// that shows a difference with as few nested steps as any.
+mod reach;
