@@ -1,2 +1,4 @@
 pub mod Pairs
 pub mod Tables
+pub mod Marking
+pub mod Splitting

@@ -1,3 +1,5 @@
 // Two procedures compared: the classes of their states, the rounds that tell them apart, and a formula
 // that shows a difference with as few nested steps as any.
 mod reach;
+mod script;
+mod split;
