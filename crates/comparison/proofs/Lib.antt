@@ -1,4 +1,6 @@
 pub mod Pairs
 pub mod Tables
+pub mod Contrasts
+pub mod Sending
 pub mod Marking
 pub mod Splitting

@@ -22,6 +22,14 @@ abbrev pub sent : (ℕ → ℕ → Bool) → List Split → ℕ → ℕ → ℕ 
 sent has splits first d zero = d
 sent has splits first d (suc j) = cond (leaves has (getD splits j unsplit) (sent has splits first d j)) (first + j) (sent has splits first d j)
 
+-- each split is by a pair that the table has a cell for
+pub record Drawn-at (x : Split) : Type 0 where
+  pub action : x .action ≤ 63
+  pub into : x .into < 256
+
+abbrev pub Drawn : List Split → ℕ → Type 0
+Drawn splits made = (j : ℕ) → j < made → Drawn-at (getD splits j unsplit)
+
 -- `land` gives each state of m one of L classes, each with a state in it: finer than the numbering n of round k,
 -- and no finer than round k + 1
 pub record Landing (m : Meaning) (k : ℕ) (n : ℕ → ℕ) (L : ℕ) (land : ℕ → ℕ) : Type 0 where

@@ -1,3 +1,5 @@
 pub mod Reach
 pub mod Marks
 pub mod Landing
+pub mod Holding
+pub mod Drafts

@@ -1,5 +1,9 @@
 // Two procedures compared: the classes of their states, the rounds that tell them apart, and a formula
 // that shows a difference with as few nested steps as any.
+mod contrast;
+mod draft;
+mod held;
+mod partition;
 mod reach;
 mod script;
 mod split;

@@ -47,7 +47,7 @@ impl Reach {
 
     // Holds just the pairs that state t reaches, and answers their number.
     pub fn mark<S: System>(&mut self, system: &S, class: &[u16; 256], t: usize) -> usize
-        requires { ⌜ ((u : ℕ) → getD (now class) u 0 < 256) ⌝ }
+        requires { ⌜ ((u : ℕ) → u < meaning (now system) .count → getD (now class) u 0 < 256) ⌝ }
         ensures reached { λ _. ⌜ Reached (numbers (now (class .entry))) (meaning (now (system .entry)) .steps t) (now (self .exit)) ⌝ }
         ensures counted { λ r. ⌜ r ≡ total (now (self .exit)) ⌝ }
     {
@@ -65,7 +65,7 @@ impl Reach {
 
     // The first pair that state t reaches and that is not held.
     pub fn missing<S: System>(&self, system: &S, class: &[u16; 256], t: usize) -> Option<(u8, u16)>
-        requires { ⌜ ((u : ℕ) → getD (now class) u 0 < 256) ⌝ }
+        requires { ⌜ ((u : ℕ) → u < meaning (now system) .count → getD (now class) u 0 < 256) ⌝ }
         ensures { λ r. ⌜ Missing (numbers (now (class .entry))) (meaning (now (system .entry)) .steps t) (now (self .entry)) r ⌝ }
     {
         for k in 0..system.step_count(t) {

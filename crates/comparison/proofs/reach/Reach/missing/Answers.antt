@@ -4,7 +4,7 @@ use Prim.Native.Nat.{ℕ, _≤_}
 use mathlib.Core.Bool.{true}
 use mathlib.Core.List.{List}
 use lib.ListN.{length}
-use Rattle.lts.specs.Laws.Member.{nth-in, nth-missing, listed-action}
+use Rattle.lts.specs.Laws.Member.{nth-in, nth-missing, listed-action, listed-target}
 use Rattle.comparison.specs.Reach.{numbers, holds, hits}
 use Rattle.comparison.proofs.Pairs.{in-hits, lacks-more, take-whole}
 use Rattle.comparison.proofs.reach.Reach.missing.Needs as need
@@ -14,7 +14,7 @@ pub has-requires : need.has-requires
 has-requires g c κs =
     let m = g .S·System .meaning (c .args .system .now) in
     let law = g .S·System .lawful (c .args .system .now) in
-    record { action = listed-action m law (c .args .t) (c .loop-k .k) (c .in-Some .action) (c .in-Some .target) (c .in-Some .ensures tt); class = c .pre (c .in-Some .target) }
+    record { action = listed-action m law (c .args .t) (c .loop-k .k) (c .in-Some .action) (c .in-Some .target) (c .in-Some .ensures tt); class = c .pre (c .in-Some .target) (listed-target m law (c .args .t) (c .loop-k .k) (c .in-Some .action) (c .in-Some .target) (c .in-Some .ensures tt)) }
 
 pub returns-then-not-has : need.returns-then-not-has
 returns-then-not-has g c =
@@ -24,7 +24,7 @@ returns-then-not-has g c =
     let a = c .in-Some .action in
     let u = c .in-Some .target in
     let at = c .in-Some .ensures tt in
-    (listed-action m law (c .args .t) (c .loop-k .k) a u at, c .pre u, in-hits (numbers (c .args .class .now)) a (numbers (c .args .class .now) u) u xs (nth-in (a, u) xs (c .loop-k .k) (sym at)) refl, sym (c .if-not-has .ensures tt))
+    (listed-action m law (c .args .t) (c .loop-k .k) a u at, c .pre u (listed-target m law (c .args .t) (c .loop-k .k) a u at), in-hits (numbers (c .args .class .now)) a (numbers (c .args .class .now) u) u xs (nth-in (a, u) xs (c .loop-k .k) (sym at)) refl, sym (c .if-not-has .ensures tt))
 
 pub loop-k-again : need.loop-k-again
 loop-k-again g c =
