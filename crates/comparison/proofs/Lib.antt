@@ -4,3 +4,6 @@ pub mod Contrasts
 pub mod Sending
 pub mod Marking
 pub mod Splitting
+pub mod Rounding
+pub mod Joining
+pub mod Parting

@@ -1,6 +1,6 @@
 -- What is done to a round in progress.
-use Prim.Native.Nat.{ℕ, _+_}
-use lib.ListN.{set, replicate}
+use Prim.Native.Nat.{ℕ, _+_, _<_}
+use lib.ListN.{length, set, replicate}
 use Rattle.std.specs.declared.option.Option.the-variants.{Some, None}
 use Rattle.comparison.specs.Landing.{unsplit}
 use Rattle.comparison.specs.declared.draft.Draft.{Draft}
@@ -25,3 +25,14 @@ led x s d =
 abbrev pub parted : Draft → ℕ → Split → ℕ → ℕ → Draft
 parted x s y gone stays =
     record { next = record { class = set (x .next .class) s (x .next .count); marks = set (set (x .next .marks) (y .from) stays) (x .next .count) gone; count = x .next .count + 1 }; splits = set (x .splits) (x .made) y; made = x .made + 1; leaders = set (x .leaders) (x .next .count) (Some s) }
+
+-- there is room for that
+pub record Fits-in (x : Draft) (s : ℕ) (y : Split) : Type 0 where
+  pub state : s < length (x .next .class)
+  pub number : s < 256
+  pub room : x .next .count < 256
+  pub splits : x .made < length (x .splits)
+  pub made : x .made < 256
+  pub from : y .from < length (x .next .marks)
+  pub marks : x .next .count < length (x .next .marks)
+  pub leaders : x .next .count < length (x .leaders)

@@ -3,3 +3,4 @@ pub mod Marks
 pub mod Landing
 pub mod Holding
 pub mod Drafts
+pub mod Standing

@@ -2,9 +2,10 @@
 ghost use Prim.Native.Nat.{ℕ, _+_, _≤_, _<_};
 ghost use lib.ListN.{length, getD};
 ghost use mathlib.Core.Path.{_≡_};
+ghost use Rattle.std.specs.declared.option.Option.the-variants.{None};
 ghost use Rattle.comparison.specs.Reach.{holds};
 ghost use Rattle.comparison.specs.Landing.{sent, Drawn};
-ghost use Rattle.comparison.specs.Drafts.{fresh, joined, led, parted};
+ghost use Rattle.comparison.specs.Drafts.{fresh, joined, led, parted, Fits-in};
 use crate::partition::Partition;
 use crate::reach::Reach;
 use crate::split::Split;
@@ -55,6 +56,15 @@ impl Draft {
         class
     }
 
+    // The leader of class d, where it has one.
+    pub fn leader(&self, d: u16) -> Option<u16>
+        requires size { ⌜ length (now self .leaders) ≡ 256 ⌝ }
+        requires class { ⌜ d < 256 ⌝ }
+        ensures { λ r. ⌜ r ≡ getD (now (self .entry) .leaders) d None ⌝ }
+    {
+        self.leaders[d as usize]
+    }
+
     // State s joins class d.
     pub fn join(&mut self, s: usize, d: u16)
         requires state { ⌜ s < length (now self .next .class) ⌝ }
@@ -78,14 +88,7 @@ impl Draft {
     // State s leaves its class by a split, and leads a new class. The new class has the line `gone`, what
     // stays behind the line `stays`.
     pub fn part(&mut self, s: usize, split: Split, gone: u16, stays: u16)
-        requires state { ⌜ s < length (now self .next .class) ⌝ }
-        requires number { ⌜ s < 256 ⌝ }
-        requires room { ⌜ now self .next .count < 256 ⌝ }
-        requires splits { ⌜ now self .made < length (now self .splits) ⌝ }
-        requires made { ⌜ now self .made < 256 ⌝ }
-        requires from { ⌜ split .from < length (now self .next .marks) ⌝ }
-        requires marks { ⌜ now self .next .count < length (now self .next .marks) ⌝ }
-        requires leaders { ⌜ now self .next .count < length (now self .leaders) ⌝ }
+        requires { ⌜ Fits-in (now self) s split ⌝ }
         ensures { λ _. ⌜ now (self .exit) ≡ parted (now (self .entry)) s split gone stays ⌝ }
     {
         let new = self.next.count;

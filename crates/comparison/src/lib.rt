@@ -6,4 +6,5 @@ mod held;
 mod partition;
 mod reach;
 mod script;
+mod settling;
 mod split;
