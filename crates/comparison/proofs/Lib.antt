@@ -7,3 +7,6 @@ pub mod Splitting
 pub mod Rounding
 pub mod Joining
 pub mod Parting
+pub mod Closing
+pub mod Zero
+pub mod Watching

@@ -4,3 +4,5 @@ pub mod Landing
 pub mod Holding
 pub mod Drafts
 pub mod Standing
+pub mod Ended
+pub mod Found
