@@ -50,11 +50,11 @@ module _ (m : Meaning) (ls : List Line) (d p q : ℕ) (P : ℕ → Type 0) (h : 
   under : {X A B : Type 0} → A ↔ B → (X × A) ↔ (X × B)
   under e = (λ r. (r .0, e .0 (r .1)), λ r. (r .0, e .1 (r .1)))
 
-  on-side : (b : Bool) → Marks m ls d (cond b p q) (λ t. P t × (Bool·beq (h t) b ≡ true))
+  pub on-side : (b : Bool) → Marks m ls d (cond b p q) (λ t. P t × (Bool·beq (h t) b ≡ true))
   on-side true = marks-like m ls d p _ _ (λ t _. under (beq-true (h t))) with
   on-side false = marks-like m ls d q _ _ (λ t _. under (beq-not-false (h t))) without
 
-  off-side : (b : Bool) → Marks m ls d (cond b q p) (λ t. P t × (Bool·beq (h t) b ≡ false))
+  pub off-side : (b : Bool) → Marks m ls d (cond b q p) (λ t. P t × (Bool·beq (h t) b ≡ false))
   off-side true = marks-like m ls d q _ _ (λ t _. under (beq-not-true (h t))) without
   off-side false = marks-like m ls d p _ _ (λ t _. under (beq-false (h t))) with
 

@@ -12,8 +12,8 @@ use Rattle.comparison.specs.Reach.{numbers}
 abbrev pub apart : Meaning → ℕ → ℕ
 apart m t = cond (Bool·beq (m .ends t) (m .ends 0)) 0 1
 
--- the states below s are in their classes, and `count` says how many there are
-pub record Ended (m : Meaning) (s : ℕ) (class : List ℕ) (count : ℕ) : Type 0 where
+-- the states below s are in their classes, K of them
+pub record Ended (m : Meaning) (s : ℕ) (class : List ℕ) (K : ℕ) : Type 0 where
   pub size : length class ≡ 256
   pub each : (t : ℕ) → t < s → numbers class t ≡ apart m t
-  pub count : ((count ≡ 1) × ((t : ℕ) → t < s → apart m t ≡ 0)) ⊎ ((count ≡ 2) × ((t : ℕ) × (t < s) × (apart m t ≡ 1)))
+  pub counted : ((K ≡ 1) × ((t : ℕ) → t < s → apart m t ≡ 0)) ⊎ ((K ≡ 2) × ((t : ℕ) × (t < s) × (apart m t ≡ 1)))
