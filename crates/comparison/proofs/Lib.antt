@@ -10,3 +10,5 @@ pub mod Parting
 pub mod Closing
 pub mod Zero
 pub mod Watching
+pub mod Ending
+pub mod Reporting

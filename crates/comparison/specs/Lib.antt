@@ -6,3 +6,7 @@ pub mod Drafts
 pub mod Standing
 pub mod Ended
 pub mod Found
+pub mod Outcomes
+pub mod Faults
+pub mod Compared
+pub mod Buffers
