@@ -2,3 +2,4 @@ pub mod Rows
 pub mod Moving
 pub mod Clearing
 pub mod Viewing
+pub mod Submitting

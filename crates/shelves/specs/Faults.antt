@@ -4,7 +4,7 @@ use Rattle.std.specs.declared.option.Option.the-variants.{None}
 use Rattle.refusals.specs.declared.Refusal.{Refusal}
 use Rattle.refusals.specs.declared.Layer.the-variants.{Shelf}
 use Rattle.shelves.specs.declared.fault.ShelfFault.{ShelfFault}
-use Rattle.shelves.specs.declared.fault.ShelfFault.the-variants.{Slot, Taken, Empty, Pending, Steps, Nothing, Claims, Clearance}
+use Rattle.shelves.specs.declared.fault.ShelfFault.the-variants.{Slot, Taken, Empty, Pending, Steps, Room, Different, Nothing, Claims, Clearance}
 
 abbrev pub number-of : ShelfFault → ℕ
 number-of Slot = 20
@@ -12,6 +12,8 @@ number-of Taken = 21
 number-of Empty = 22
 number-of Pending = 23
 number-of Steps = 24
+number-of Room = 25
+number-of (Different report) = 26
 number-of Nothing = 27
 number-of Claims = 28
 number-of Clearance = 29

@@ -1,5 +1,9 @@
 // Why a call on a shelf is refused.
+ghost use mathlib.Core.Path.{_≡_};
 ghost use Rattle.shelves.specs.Faults.{of-shelf};
+ghost use Rattle.shelves.specs.declared.fault.ShelfFault.the-variants.{Room};
+use comparison::CompareFault;
+use comparison::Report;
 use refusals::Fault;
 use refusals::Layer;
 use refusals::Refusal;
@@ -16,6 +20,10 @@ pub enum ShelfFault {
     Pending,
     // The source lists over 512 steps in all.
     Steps,
+    // Too few places for lines or for class numbers.
+    Room,
+    // The source differs from the procedure in force; what the comparison reports.
+    Different(Report),
     // Nothing is pending.
     Nothing,
     // 65,535 claims were made.
@@ -34,6 +42,8 @@ pub impl Fault for ShelfFault as ShelfFaultTold {
             ShelfFault::Empty => 22,
             ShelfFault::Pending => 23,
             ShelfFault::Steps => 24,
+            ShelfFault::Room => 25,
+            ShelfFault::Different(_) => 26,
             ShelfFault::Nothing => 27,
             ShelfFault::Claims => 28,
             ShelfFault::Clearance => 29,
@@ -43,5 +53,14 @@ pub impl Fault for ShelfFault as ShelfFaultTold {
             layer: Layer::Shelf,
             place: None,
         }
+    }
+}
+
+pub impl From<CompareFault> for ShelfFault as ShelfFaultFromCompare {
+    ghost converts = { λ _ r. r ≡ Room };
+
+    fn from(fault: CompareFault) -> ShelfFault {
+        let CompareFault::Room = fault;
+        ShelfFault::Room
     }
 }

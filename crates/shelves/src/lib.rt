@@ -7,5 +7,6 @@ pub mod slots;
 
 pub use clearance::Clearance;
 pub use fault::ShelfFault;
+pub use fault::ShelfFaultFromCompare;
 pub use fault::ShelfFaultTold;
 pub use shelf::Shelf;

@@ -1,18 +1,42 @@
 // The calls on a shelf.
+ghost use lib.ListN.{length};
 ghost use mathlib.Core.Bool.{false};
 ghost use mathlib.Core.Path.{_≡_};
 ghost use Rattle.std.specs.Vec.{made};
 ghost use Rattle.accounts.specs.Account.{new};
-ghost use Rattle.accounts.specs.Calls.{file, claim};
-ghost use Rattle.shelves.specs.Moves.{account-of, Moved, answer, claim-answer, Filing, Claiming, Cleared, release-by, withdraw-by, used-up};
+ghost use Rattle.accounts.specs.Calls.{file, submit, claim};
+ghost use Rattle.lts.specs.Layout.{Sound, stored};
+ghost use Rattle.shelves.specs.Moves.{account-of, Moved, answer, claim-answer, submit-answer, Filing, Admitted, Weighing, Submitted, Claiming, Cleared, release-by, withdraw-by, used-up};
 use crate::clearance::Clearance;
 use crate::fault::ShelfFault;
+use crate::fault::ShelfFaultFromCompare;
 use crate::row::Row;
 use crate::shelf::Shelf;
 use crate::slots::Slots;
+use comparison::Report;
+use comparison::Verdict;
+use comparison::compare;
+use formulas::Line;
 use lts::Procedure;
 use lts::Source;
+use lts::Stored;
+use lts::StoredSource;
 use lts::copied;
+
+// Compares a procedure with a source.
+fn weigh<const N: usize, S: Source<N>>(
+    force: &Procedure,
+    source: &S,
+    lines: &mut [Line],
+    classes: &mut [u16],
+) -> Result<Report, ShelfFault>
+    requires { ⌜ Sound (now force) ⌝ }
+    ensures { λ r. ⌜ Weighing (stored (now (force .entry))) (meaning (now (source .entry))) (now (lines .entry)) (now (classes .entry)) r (now (lines .exit)) (now (classes .exit)) ⌝ }
+{
+    let view = Stored { of: force };
+    let report = compare(&view, source, lines, classes)?;
+    Ok(report)
+}
 
 impl Shelf {
     // A shelf with empty slots and no claim.
@@ -62,6 +86,55 @@ impl Shelf {
         let row = self.filing(slot, source)?;
         self.slots.put(slot, row);
         Ok(())
+    }
+
+    // The row of an open slot and a copy of the source, or why they can't be compared.
+    fn admitted<const N: usize, S: Source<N>>(
+        &self,
+        slot: usize,
+        source: &S,
+    ) -> Result<(Row, Procedure), ShelfFault>
+        ensures { λ r. ⌜ Admitted (account-of (now (self .entry))) (now (self .entry) .slots .rows) slot (meaning (now (source .entry))) r ⌝ }
+    {
+        if slot > 7 {
+            return Err(ShelfFault::Slot);
+        }
+        let Some(row) = self.slots.rows[slot] else {
+            return Err(ShelfFault::Empty);
+        };
+        if row.pending.is_some() {
+            return Err(ShelfFault::Pending);
+        }
+        match copied(source) {
+            None => Err(ShelfFault::Steps),
+            Some(procedure) => Ok((row, procedure)),
+        }
+    }
+
+    // Compares the procedure in force with a source; where they are the same, the source is pending.
+    pub fn submit<const N: usize, S: Source<N>>(
+        &mut self,
+        slot: usize,
+        source: &S,
+        lines: &mut [Line],
+        classes: &mut [u16],
+    ) -> Result<Report, ShelfFault>
+        ensures moved { λ r. ⌜ Moved (account-of (now (self .entry))) (submit slot (meaning (now (source .entry))) (length (now (lines .entry))) (length (now (classes .entry)))) (submit-answer r (now (lines .exit))) (account-of (now (self .exit))) ⌝ }
+        ensures submitted { λ r. ⌜ Submitted (account-of (now (self .entry))) slot (meaning (now (source .entry))) (now (lines .entry)) (now (classes .entry)) r (now (lines .exit)) (now (classes .exit)) ⌝ }
+    {
+        let (row, procedure) = self.admitted(slot, source)?;
+        let report = weigh(&row.force, source, lines, classes)?;
+        match report.verdict {
+            Verdict::Different { .. } => Err(ShelfFault::Different(report)),
+            Verdict::Same => {
+                let row = Row {
+                    pending: Some(procedure),
+                    ..row
+                };
+                self.slots.put(slot, row);
+                Ok(report)
+            }
+        }
     }
 
     // The row that a claim makes, or why there is nothing to claim.
