@@ -11,10 +11,10 @@ loop-j-again c =
     let splits = c .args .self .now .splits in
     let inv = c .loop-j .inv in
     elim (c .if-split-class .came) [
-      then-split-class·then-has-split w ↦ w .class-is ∙ sent-goes has splits (c .args .first) (c .args .from) (c .loop-j .j) (c .loop-j .class) (w .has .result) inv (w .if-split-class .taken) (w .has .ensures) (w .if-has-split .taken) |
-      else-split-class w ↦
+      | then-split-class·then-has-split w ↦ w .class-is ∙ sent-goes has splits (c .args .first) (c .args .from) (c .loop-j .j) (c .loop-j .class) (w .has .result) inv (w .if-split-class .taken) (w .has .ensures) (w .if-has-split .taken)
+      | else-split-class w ↦
           elim (w .else-split-class .came) [
-            else-split-class·by·then-split-class·else-has-split w′ ↦ w .class-is ∙ sent-stays has splits (c .args .first) (c .args .from) (c .loop-j .j) (c .loop-j .class) (w′ .has .result) inv (w′ .has .ensures) (w′ .if-has-split .left) |
-            else-split-class·by·else-split-class w′ ↦ w .class-is ∙ sent-elsewhere has splits (c .args .first) (c .args .from) (c .loop-j .j) (c .loop-j .class) inv (w′ .if-split-class .left)
+            | else-split-class·by·then-split-class·else-has-split w′ ↦ w .class-is ∙ sent-stays has splits (c .args .first) (c .args .from) (c .loop-j .j) (c .loop-j .class) (w′ .has .result) inv (w′ .has .ensures) (w′ .if-has-split .left)
+            | else-split-class·by·else-split-class w′ ↦ w .class-is ∙ sent-elsewhere has splits (c .args .first) (c .args .from) (c .loop-j .j) (c .loop-j .class) inv (w′ .if-split-class .left)
           ]
     ]

@@ -31,7 +31,7 @@ loop-k-again g c =
     let xs = m .steps (c .args .t) in
     let k = c .loop-k .k in
     elim (c .match-step .came) [
-      in-Some·then-put w ↦
+      | in-Some·then-put w ↦
           let a = w .in-Some .action in
           let u = w .in-Some .target in
           let at = w .in-Some .ensures tt in
@@ -39,8 +39,8 @@ loop-k-again g c =
           let put = w .if-put .ensures tt in
           let more = reached-more n xs k a u _ _ _ at low put (c .loop-k .inv .0) in
           let e = total-new _ _ a (n u) (listed-action m law (c .args .t) k a u at) low put in
-          (rw (w .self-is) more, w .pairs-is ∙ (ap (λ (x : ℕ). x + 1) (c .loop-k .inv .1) ∙ (sym e ∙ ap total (sym (w .self-is))))) |
-      in-Some·else-put w ↦
+          (rw (w .self-is) more, w .pairs-is ∙ (ap (λ (x : ℕ). x + 1) (c .loop-k .inv .1) ∙ (sym e ∙ ap total (sym (w .self-is)))))
+      | in-Some·else-put w ↦
           let a = w .in-Some .action in
           let u = w .in-Some .target in
           let at = w .in-Some .ensures tt in
@@ -48,8 +48,8 @@ loop-k-again g c =
           let put = w .if-put .ensures tt in
           let more = reached-more n xs k a u _ _ _ at low put (c .loop-k .inv .0) in
           let e = total-old _ _ a (n u) put in
-          (rw (w .self-is) more, w .pairs-is ∙ (c .loop-k .inv .1 ∙ (sym e ∙ ap total (sym (w .self-is))))) |
-      in-rest w ↦
+          (rw (w .self-is) more, w .pairs-is ∙ (c .loop-k .inv .1 ∙ (sym e ∙ ap total (sym (w .self-is)))))
+      | in-rest w ↦
           let past = nth-missing xs k (w .in-rest .ensures tt) in
           let b : ⊥ = omega (arith, c .step-count-k-end .ensures) in
           absurd b
