@@ -127,11 +127,11 @@ impl Shelf {
         match report.verdict {
             Verdict::Different { .. } => Err(ShelfFault::Different(report)),
             Verdict::Same => {
-                let row = Row {
+                let submitted = Row {
                     pending: Some(procedure),
                     ..row
                 };
-                self.slots.put(slot, row);
+                self.slots.put(slot, submitted);
                 Ok(report)
             }
         }
@@ -205,13 +205,13 @@ impl Shelf {
         let Some((row, procedure)) = self.cleared(clearance) else {
             return Err(ShelfFault::Clearance);
         };
-        let row = Row {
+        let released = Row {
             force: procedure,
             pending: None,
             latest: None,
             ..row
         };
-        self.slots.put(clearance.slot as usize, row);
+        self.slots.put(clearance.slot as usize, released);
         Ok(())
     }
 
@@ -225,12 +225,12 @@ impl Shelf {
         let Some((row, _)) = self.cleared(clearance) else {
             return Err(ShelfFault::Clearance);
         };
-        let row = Row {
+        let withdrawn = Row {
             pending: None,
             latest: None,
             ..row
         };
-        self.slots.put(clearance.slot as usize, row);
+        self.slots.put(clearance.slot as usize, withdrawn);
         Ok(())
     }
 }
