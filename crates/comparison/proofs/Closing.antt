@@ -1,12 +1,11 @@
 -- How a round begins and ends.
-use Prim.Native.Nat.{ℕ, suc, _+_, _≤_, _<_}
+use Prim.Native.Nat.{ℕ, suc, _≤_, _<_}
 use native.Mathlib.Nat.{add-zero}
 use native.Mathlib.Omega.{arith}
-use mathlib.Core.Bool.{true}
 use mathlib.Core.List.{List}
 use mathlib.Core.Logic.{_↔_, ⊎-elim}
 use mathlib.Core.Path.{_≡_, refl, sym, ap, subst, _∙_}
-use lib.ListN.{length, getD, replicate, length-replicate}
+use lib.ListN.{getD, replicate, length-replicate}
 use Rattle.std.specs.declared.option.Option.{Option}
 use Rattle.std.specs.declared.option.Option.the-variants.{Some, None}
 use Rattle.std.proofs.shelf.Lists.{getD-replicate, getD-past}
@@ -16,15 +15,13 @@ use Rattle.theory.specs.Rounds.{Agree, all-of}
 use Rattle.theory.specs.Classes.{Numbering}
 use Rattle.formulas.specs.declared.line.Line.{Line}
 use Rattle.comparison.specs.Reach.{numbers, hits}
-use Rattle.comparison.specs.Marks.{Marks}
-use Rattle.comparison.specs.Landing.{unsplit, Landing}
+use Rattle.comparison.specs.Landing.{unsplit}
 use Rattle.comparison.specs.Holding.{Alike, Holding}
 use Rattle.comparison.specs.Drafts.{fresh}
-use Rattle.comparison.specs.Standing.{Based, Standing, Working, land}
+use Rattle.comparison.specs.Standing.{Standing, Working, land}
 use Rattle.comparison.specs.declared.draft.Draft.{Draft}
 use Rattle.comparison.specs.declared.held.Held.{Held}
 use Rattle.comparison.specs.declared.partition.Partition.{Partition}
-use Rattle.comparison.specs.declared.split.Split.{Split}
 use Rattle.comparison.proofs.Marking.{marks-like, marks-deeper}
 use Rattle.comparison.proofs.Rounding.{alike-agree}
 

@@ -2,7 +2,7 @@
 use Prim.Native.Nat.{ℕ, suc, _+_, _≤_, _<_}
 use native.Mathlib.Omega.{arith}
 use mathlib.Core.Bool.{true}
-use mathlib.Core.List.{List, [], _∷_, _++_}
+use mathlib.Core.List.{List}
 use mathlib.Core.Logic.{_↔_, Iff·trans}
 use mathlib.Core.Path.{_≡_, refl, sym, ap, subst, _∙_}
 use lib.ListN.{length}
@@ -10,7 +10,7 @@ use Rattle.std.proofs.shelf.Lists.{length-push}
 use Rattle.std.proofs.shelf.Tests.{lt-ltb, le-leb, and-from}
 use Rattle.lts.specs.Meaning.{Meaning, In}
 use Rattle.theory.specs.Formulas.{Formula, Holds, depth}
-use Rattle.formulas.specs.Lines.{formula, fits, Wellformed}
+use Rattle.formulas.specs.Lines.{formula, Wellformed}
 use Rattle.formulas.specs.declared.line.Line.{Line}
 use Rattle.formulas.specs.declared.line.Line.the-variants.{Not, Both, Step}
 use Rattle.formulas.proofs.Growing.{formula-push, formula-push-below, wellformed-push}

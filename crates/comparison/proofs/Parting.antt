@@ -1,17 +1,16 @@
 -- A state leaves its class for a new one.
-use Prim.Native.Nat.{ℕ, suc, _+_, _*_, _≤_, _<_}
+use Prim.Native.Nat.{ℕ, suc, _+_, _≤_, _<_}
 use native.Mathlib.Numerals.{add-one}
 use native.Mathlib.Omega.{arith}
 use mathlib.Core.Bool.{Bool, true, false, not, cond, Bool·beq}
 use mathlib.Core.List.{List}
-use mathlib.Core.Logic.{_↔_, _≢_, ⊎-elim, Iff·symm, Iff·trans}
+use mathlib.Core.Logic.{_↔_, _≢_, ⊎-elim, Iff·symm}
 use mathlib.Core.Path.{_≡_, refl, sym, ap, subst, _∙_}
 use lib.ListN.{length, getD, set, length-set}
 use borrow.Author.Count.{below-more}
-use Rattle.std.specs.declared.option.Option.{Option}
 use Rattle.std.specs.declared.option.Option.the-variants.{Some, None}
 use Rattle.std.proofs.shelf.Lists.{getD-set-same, getD-set-other}
-use Rattle.std.proofs.shelf.Tests.{cases-eq, cases-lt, both-ways, true≢false, false≢true}
+use Rattle.std.proofs.shelf.Tests.{cases-eq, true≢false, false≢true}
 use Rattle.lts.specs.Meaning.{Meaning, Lawful}
 use Rattle.theory.specs.Rounds.{Agree}
 use Rattle.formulas.specs.declared.line.Line.{Line}

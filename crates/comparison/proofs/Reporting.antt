@@ -14,7 +14,7 @@ use Rattle.lts.specs.Joined.{joined}
 use Rattle.lts.specs.Laws.Joined.{joined-lawful}
 use Rattle.theory.specs.Bisimulation.{Related, Inside}
 use Rattle.theory.specs.Rounds.{Agree, all-of, Stable}
-use Rattle.theory.specs.Classes.{Classes, Numbers}
+use Rattle.theory.specs.Classes.{Numbers}
 use Rattle.theory.specs.Formulas.{Formula, Holds, depth, Tells, Separates}
 use Rattle.theory.proofs.Relations.{lawful-inside}
 use Rattle.theory.proofs.Rounds.{stable-related}
@@ -28,7 +28,7 @@ use Rattle.comparison.specs.Reach.{numbers}
 use Rattle.comparison.specs.Found.{Told, Found}
 use Rattle.comparison.specs.Outcomes.{Compares}
 use Rattle.comparison.specs.Buffers.{told, left-in, Fits-lines}
-use Rattle.comparison.specs.Compared.{Short, Distinguished, Judged, Reported}
+use Rattle.comparison.specs.Compared.{Distinguished, Judged, Reported}
 use Rattle.comparison.specs.declared.outcome.Outcome.{Outcome}
 use Rattle.comparison.specs.declared.report.Verdict.{Verdict}
 use Rattle.comparison.specs.declared.starts.Starts.{Starts}

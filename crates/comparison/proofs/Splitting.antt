@@ -1,14 +1,14 @@
 -- A class split in two by a test that the next round respects.
 use Prim.Native.Nat.{ℕ, suc, _≤_, _<_}
 use native.Mathlib.Omega.{arith}
-use mathlib.Core.Bool.{Bool, true, false, cond, _&&_}
+use mathlib.Core.Bool.{Bool, true, false}
 use mathlib.Core.Logic.{_↔_, _⊎_, inl, inr, ⊎-elim, Iff·rfl}
-use mathlib.Core.Path.{_≡_, refl, sym, ap, subst, _∙_}
-use lib.Dec.{eqb, ltb}
-use Rattle.std.proofs.shelf.Tests.{and-parts, and-from, and-left, and-right, cond-true, cond-false, eqb-true, eq-eqb, ne-eqb, cases-bool, cases-eq, cases-lt, both-ways, ltb-true, lt-ltb}
+use mathlib.Core.Path.{_≡_, sym, subst, _∙_}
+use lib.Dec.{eqb}
+use Rattle.std.proofs.shelf.Tests.{and-from, and-left, and-right, cond-true, cond-false, eq-eqb, ne-eqb, cases-bool, cases-eq, cases-lt, ltb-true, lt-ltb}
 use Rattle.lts.specs.Meaning.{Meaning}
 use Rattle.theory.specs.Rounds.{Agree, all-of}
-use Rattle.theory.specs.Classes.{Numbers, number}
+use Rattle.theory.specs.Classes.{Numbers}
 use Rattle.theory.proofs.Stability.{all-counted}
 use Rattle.theory.proofs.Numberings.{count-few}
 use Rattle.comparison.specs.Landing.{Landing, moved}

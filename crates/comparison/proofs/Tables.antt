@@ -2,16 +2,16 @@
 use Prim.Native.Nat.{ℕ, zero, suc, _+_, _*_, _/_, _%_, _<_, _≤_}
 use native.Mathlib.Numerals.{add-one}
 use native.Mathlib.Omega.{arith}
-use mathlib.Core.Bool.{Bool, true, false, not, cond, _&&_, _||_}
+use mathlib.Core.Bool.{Bool, true, false, _&&_, _||_}
 use mathlib.Core.List.{List}
-use mathlib.Core.Logic.{_⊎_, inl, inr, ⊎-elim}
+use mathlib.Core.Logic.{_⊎_, ⊎-elim}
 use mathlib.Core.Path.{_≡_, refl, sym, ap, subst, _∙_}
 use lib.Dec.{eqb}
 use lib.ListN.{length, getD, take, replicate}
 use Rattle.std.specs.Finite.{nth}
 use Rattle.std.specs.declared.option.Option.the-variants.{Some}
-use Rattle.std.proofs.shelf.Lists.{getD-replicate, getD-past, length-replicate, take-all}
-use Rattle.std.proofs.shelf.Tests.{and-parts, and-from, or-cases, or-left, or-right, or-from, eqb-true, eq-eqb, ne-eqb, and-left, and-right, not-true, not-false, cases-eq, cases-lt, cases-bool, both-ways}
+use Rattle.std.proofs.shelf.Lists.{getD-replicate, getD-past, length-replicate}
+use Rattle.std.proofs.shelf.Tests.{and-from, or-right, eq-eqb, ne-eqb, and-left, and-right, not-true, not-false, cases-eq, cases-lt, cases-bool, both-ways}
 use Rattle.theory.specs.Classes.{number}
 use Rattle.theory.proofs.Counting.{number-more, number-same, number-back, number-none}
 use Rattle.comparison.specs.Reach.{hits, stamped, holds, total, Cleared, Put, Reached}

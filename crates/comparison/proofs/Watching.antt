@@ -1,22 +1,18 @@
 -- What a round tells of the starts, and what lines that go on keep of it.
-use Prim.Native.Nat.{ℕ, suc, _+_, _≤_, _<_}
+use Prim.Native.Nat.{ℕ, _+_, _≤_, _<_}
 use native.Mathlib.Omega.{arith}
 use mathlib.Core.Bool.{Bool, true, false, cond}
 use mathlib.Core.List.{List}
-use mathlib.Core.Logic.{⊎-elim}
-use mathlib.Core.Path.{_≡_, refl, sym, ap, subst, _∙_}
+use mathlib.Core.Path.{_≡_, refl, sym, subst}
 use lib.Dec.{eqb}
-use lib.ListN.{length}
 use borrow.Author.Count.{below-more}
-use Rattle.std.proofs.shelf.Tests.{eqb-true, eqb-false, cases-bool, lt-ltb}
+use Rattle.std.proofs.shelf.Tests.{eqb-true, eqb-false, lt-ltb}
 use Rattle.lts.specs.Meaning.{Meaning}
-use Rattle.theory.specs.Rounds.{Agree}
 use Rattle.theory.specs.Formulas.{Formula, Tells, depth}
-use Rattle.formulas.specs.Lines.{formula}
 use Rattle.formulas.specs.declared.line.Line.{Line}
 use Rattle.comparison.specs.Reach.{numbers}
 use Rattle.comparison.specs.Marks.{Kept}
-use Rattle.comparison.specs.Found.{watched, Told, Found}
+use Rattle.comparison.specs.Found.{watched, Found}
 use Rattle.comparison.specs.Standing.{Standing}
 use Rattle.comparison.specs.declared.partition.Partition.{Partition}
 use Rattle.comparison.specs.declared.starts.Starts.{Starts}

@@ -2,25 +2,23 @@
 use Prim.Native.Nat.{ℕ, zero, suc, _+_, _<_}
 use native.Mathlib.Omega.{arith}
 use mathlib.Core.Bool.{Bool, true, false, cond, Bool·beq}
-use mathlib.Core.List.{List, [], _∷_}
+use mathlib.Core.List.{List, []}
 use mathlib.Core.Logic.{_↔_, _≢_, _⊎_, inl, inr, ⊎-elim}
-use mathlib.Core.Path.{_≡_, refl, sym, ap, subst, _∙_}
+use mathlib.Core.Path.{_≡_, refl, sym, subst, _∙_}
 use lib.ListN.{length, getD, set, length-set, length-replicate, replicate}
 use borrow.Author.Count.{below-more}
-use Rattle.std.proofs.shelf.Lists.{getD-set-same, getD-set-other, getD-replicate}
-use Rattle.std.proofs.shelf.Tests.{cases-eq, ltb-true, lt-ltb, true≢false, false≢true}
+use Rattle.std.proofs.shelf.Lists.{getD-set-same, getD-set-other}
+use Rattle.std.proofs.shelf.Tests.{ltb-true, lt-ltb, true≢false, false≢true}
 use Rattle.lts.specs.Meaning.{Meaning, Lawful}
-use Rattle.theory.specs.Rounds.{Agree, all-of}
+use Rattle.theory.specs.Rounds.{all-of}
 use Rattle.theory.specs.Classes.{Numbering}
-use Rattle.formulas.specs.Lines.{Wellformed}
 use Rattle.formulas.specs.declared.line.Line.{Line}
 use Rattle.formulas.specs.declared.line.Line.the-variants.{True, End, Not}
 use Rattle.formulas.proofs.Growing.{wellformed-push}
 use Rattle.comparison.specs.Reach.{numbers}
 use Rattle.comparison.specs.Marks.{Marks, with-line}
 use Rattle.comparison.specs.Ended.{apart, Ended}
-use Rattle.comparison.specs.Standing.{Based, Standing}
-use Rattle.comparison.specs.declared.partition.Partition.{Partition}
+use Rattle.comparison.specs.Standing.{Standing}
 use Rattle.comparison.proofs.Marking.{marks-kept, marks-like, marks-not, kept-push}
 use Rattle.comparison.proofs.Parting.{on-side, off-side}
 

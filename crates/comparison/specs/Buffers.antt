@@ -1,5 +1,5 @@
 -- What is left in the caller's buffers.
-use Prim.Native.Nat.{ℕ, _+_, _<_}
+use Prim.Native.Nat.{_+_, _<_}
 use mathlib.Core.List.{List, _++_}
 use lib.ListN.{length, take, drop}
 use Rattle.formulas.specs.declared.line.Line.{Line}

@@ -1,5 +1,4 @@
 // The classes of round 0: states alike in their end marks.
-ghost use lib.ListN.{length};
 ghost use mathlib.Core.List.{[]};
 ghost use mathlib.Core.Path.{_≡_};
 ghost use Rattle.comparison.specs.Ended.{Ended};

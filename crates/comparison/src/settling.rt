@@ -1,10 +1,9 @@
 // One state of a round finds its class.
-ghost use Prim.Native.Nat.{ℕ, _+_, _<_};
-ghost use mathlib.Core.Path.{_≡_};
+ghost use Prim.Native.Nat.{_+_, _<_};
 ghost use Rattle.comparison.specs.Reach.{numbers};
 ghost use Rattle.comparison.specs.Marks.{written, Kept};
-ghost use Rattle.comparison.specs.Holding.{Holding, Parts};
-ghost use Rattle.comparison.specs.Standing.{Working, land, Parting};
+ghost use Rattle.comparison.specs.Holding.{Holding};
+ghost use Rattle.comparison.specs.Standing.{Working, Parting};
 use crate::contrast::contrast;
 use crate::draft::Draft;
 use crate::held::Held;

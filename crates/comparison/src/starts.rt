@@ -1,5 +1,5 @@
 // What the rounds so far tell of the two starts.
-ghost use Prim.Native.Nat.{ℕ, _<_};
+ghost use Prim.Native.Nat.{_<_};
 ghost use lib.ListN.{length, getD};
 ghost use mathlib.Core.Path.{_≡_};
 ghost use Rattle.comparison.specs.Found.{watched};

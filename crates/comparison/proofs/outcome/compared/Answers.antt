@@ -1,7 +1,7 @@
 use borrow.Author.Needs.{needs}
 use native.Mathlib.Omega.{arith}
 use Prim.Native.Nat.{_+_}
-use mathlib.Core.Path.{_≡_, sym, subst}
+use mathlib.Core.Path.{sym, subst}
 use Rattle.comparison.specs.Found.{Found}
 use Rattle.comparison.specs.Marks.{written}
 use Rattle.comparison.specs.Outcomes.{Compares}

@@ -1,7 +1,7 @@
 use native.Mathlib.Numerals.{add-one}
 use native.Mathlib.Omega.{arith}
 use Prim.Native.Nat.{_≤_}
-use mathlib.Core.Path.{_≡_, sym, subst}
+use mathlib.Core.Path.{sym, subst}
 use Rattle.comparison.specs.Marks.{written}
 use Rattle.comparison.specs.Standing.{Working}
 use Rattle.comparison.proofs.Closing.{opening, closing, nothing-held}

@@ -1,7 +1,6 @@
 use native.Mathlib.Omega.{arith}
-use mathlib.Core.Path.{_≡_, sym, subst, _∙_}
-use Prim.Native.Nat.{_+_, _≤_}
-use lib.ListN.{length}
+use mathlib.Core.Path.{sym, subst}
+use Prim.Native.Nat.{_+_}
 use Rattle.comparison.specs.Marks.{written}
 use Rattle.comparison.specs.Standing.{Working}
 use Rattle.comparison.proofs.Joining.{join-works, lead-works, classes-few, classes-low, lands-at, lands-low, parting-at}

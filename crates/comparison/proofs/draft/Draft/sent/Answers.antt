@@ -1,5 +1,4 @@
-use mathlib.Core.Path.{sym, ap, _∙_}
-use mathlib.Core.Bool.{Bool, Bool·beq}
+use mathlib.Core.Path.{_∙_}
 use Rattle.comparison.specs.Reach.{holds}
 use Rattle.comparison.proofs.Sending.{sent-goes, sent-stays, sent-elsewhere}
 use Rattle.comparison.proofs.draft.Draft.sent.Needs as need

@@ -1,11 +1,11 @@
 use borrow.Author.Needs.{needs}
 use native.Mathlib.Omega.{arith}
-use mathlib.Core.Path.{_≡_, sym, ap, subst, _∙_}
+use mathlib.Core.Path.{sym, ap, subst, _∙_}
 use Prim.Native.Nat.{ℕ, _+_, _≤_}
 use mathlib.Core.List.{List}
 use lib.ListN.{length}
 use Rattle.lts.specs.Laws.Member.{nth-missing, listed-action, listed-target}
-use Rattle.comparison.specs.Reach.{numbers, total, Reached, Put}
+use Rattle.comparison.specs.Reach.{numbers, total, Reached}
 use Rattle.comparison.proofs.Pairs.{take-whole}
 use Rattle.comparison.proofs.Tables.{reached-more, total-new, total-old, total-none, total-few}
 use Rattle.comparison.proofs.reach.Reach.mark.Needs as need

@@ -1,6 +1,5 @@
 use Prim.Native.Nat.{ℕ}
 use native.Mathlib.Omega.{arith}
-use mathlib.Core.Path.{refl}
 use lib.ListN.{length-replicate}
 use Rattle.comparison.proofs.Tables.{blank}
 use Rattle.comparison.proofs.reach.Reach.new.Needs as need
