@@ -6,5 +6,7 @@ pub mod term;
 
 pub use form::Form;
 pub use lines::split_line;
+pub use procedure::ActionName;
+pub use procedure::ActionNameDisplay;
 pub use procedure::draw;
 pub use term::draw_term;

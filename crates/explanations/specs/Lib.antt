@@ -1,0 +1,4 @@
+pub mod Texts
+pub mod Formulas
+pub mod Offsets
+pub mod Ways
