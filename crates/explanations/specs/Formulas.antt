@@ -22,5 +22,8 @@ abbrev pub room-behind : ℕ → List ℕ → Option ℕ
 room-behind room text = cond (leb (length text) room) (Some (room - length text)) None
 
 -- the formula, where it has at most 400 bytes
+abbrev pub written : Formula → List ℕ
+written f = cond (leb (length (formula-text f)) 400) (formula-text f) (codes "the formula is too long to print in one line")
+
 abbrev pub readable-text : Formula → List ℕ
-readable-text f = cond (leb (length (formula-text f)) 400) (formula-text f) (codes "the formula is too long to print in one line") ++ codes "\n"
+readable-text f = written f ++ codes "\n"

@@ -1,4 +1,4 @@
 use Rattle.explanations.proofs.formula.+push_formula.Given as given
 
-abbrev pub μ-push_formula : given.MeasureT-push_formula
-μ-push_formula l = l .i
+abbrev pub μ-push-formula : given.MeasureT-push-formula
+μ-push-formula l = l .i
