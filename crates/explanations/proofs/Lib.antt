@@ -1,4 +1,5 @@
 pub mod Counting
+pub mod Following
 pub mod Listing
 pub mod Pieces
 pub mod Spelling

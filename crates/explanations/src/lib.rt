@@ -4,5 +4,6 @@ mod formula;
 mod lines;
 mod offsets;
 mod side;
+mod way;
 
 pub use offsets::action_offset;
