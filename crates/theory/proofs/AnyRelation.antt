@@ -1,36 +1,19 @@
 -- What a bisimulation of any kind relates, one that is given by a test relates too.
-use Prim.Native.Nat.{ℕ, _+_, _-_, _<_}
+use Prim.Native.Nat.{ℕ, _+_, _<_}
 use native.Mathlib.Nat.{zero-add}
 use native.Mathlib.Omega.{arith}
-use mathlib.Core.Bool.{cond}
-use mathlib.Core.List.{map}
 use mathlib.Core.Path.{_≡_, refl}
-use lib.Dec.{ltb}
-use Rattle.std.proofs.shelf.Tests.{lt-ltb, le-ltb}
+use Rattle.std.proofs.shelf.Tests.{lt-ltb}
 use Rattle.lts.specs.Meaning.{Meaning}
+use Rattle.lts.specs.Joined.{joined}
 use Rattle.theory.specs.Bisimulation.{turned, BisimulationOf, Related, Inside}
 use Rattle.theory.specs.Rounds.{Agree, all-of}
-use Rattle.theory.specs.Joins.{Joins, raised}
+use Rattle.theory.specs.Joins.{Joins}
 use Rattle.theory.specs.Theorems.{Any-related, Unrelated}
 use Rattle.theory.proofs.Relations.{turn, Through, compose}
 use Rattle.theory.proofs.Rounds.{bisimilar-agree, stable-related}
-use Rattle.theory.proofs.Joining.{Placed, left-placed, right-placed, joined-inside, joined-related}
+use Rattle.theory.proofs.Joining.{Placed, left-placed, right-placed, joined-inside, joined-joins, joined-related}
 use Rattle.theory.proofs.Stability.{rounds-exist, all-closed, all-counted}
-
--- p and q side by side
-abbrev beside : Meaning → Meaning → Meaning
-beside p q =
-    record { count = p .count + q .count; ends = λ s. cond (ltb s (p .count)) (p .ends s) (q .ends (s - p .count)); steps = λ s. cond (ltb s (p .count)) (p .steps s) (map (raised (p .count)) (q .steps (s - p .count))) }
-
-beside-joins : (p q : Meaning) → Joins p q (beside p q)
-beside-joins p q =
-    record {
-      counts = refl;
-      left-ends = λ s l. rw (lt-ltb s (p .count) l);
-      left-steps = λ s l. rw (lt-ltb s (p .count) l);
-      right-ends = λ t _. let e : p .count + t - p .count ≡ t = omega arith in rw (le-ltb (p .count + t) (p .count) (omega arith), e);
-      right-steps = λ t _. let e : p .count + t - p .count ≡ t = omega arith in rw (le-ltb (p .count + t) (p .count) (omega arith), e);
-    }
 
 module _ (R : ℕ → ℕ → Type 0) (p q m : Meaning) (j : Joins p q m) (in-p : Inside p) (in-q : Inside q) (b : BisimulationOf p q R) (s t : ℕ) (ls : s < p .count) (lt : t < q .count) (r : R s t) where
   -- R between the states as they stand in the whole
@@ -51,7 +34,7 @@ module _ (R : ℕ → ℕ → Type 0) (p q m : Meaning) (j : Joins p q m) (in-p 
       joined-related p q m s t j in-p in-q ls lt .1 (stable-related m (all-of m) (f .0) s (p .count + t) closed (f .1 .stable) (lt-ltb s (m .count) (omega arith)) (lt-ltb (p .count + t) (m .count) (omega arith)) .0 h)
 
 pub any-related : (R : ℕ → ℕ → Type 0) → Any-related R
-any-related R p q s t in-p in-q ls lt b r = some-relates R p q (beside p q) (beside-joins p q) in-p in-q b s t ls lt r
+any-related R p q s t in-p in-q ls lt b r = some-relates R p q (joined p q) (joined-joins p q) in-p in-q b s t ls lt r
 
 pub unrelated : (R : ℕ → ℕ → Type 0) → Unrelated R
 unrelated R p q s t in-p in-q ls lt none b r = none (any-related R p q s t in-p in-q ls lt b r)

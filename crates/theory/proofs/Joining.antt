@@ -10,9 +10,11 @@ use lib.Dec.{ltb, eqb}
 use Rattle.std.proofs.shelf.Ways.{decides-eqb, decides-ltb, decides-and}
 use Rattle.std.proofs.shelf.Tests.{cases-lt}
 use Rattle.lts.specs.Meaning.{Meaning, In}
+use Rattle.lts.specs.Joined.{raised, joined}
 use Rattle.lts.specs.Laws.Member.{in-map, from-map}
+use Rattle.lts.specs.Laws.Joined as beside
 use Rattle.theory.specs.Bisimulation.{BisimulationOf, Related, Inside}
-use Rattle.theory.specs.Joins.{Joins, raised}
+use Rattle.theory.specs.Joins.{Joins}
 use Rattle.theory.specs.Theorems.{Joined-related, Joined-left, Joined-right, Joined-separates}
 use Rattle.theory.proofs.Relations.{Decided, related-by, related-symmetric, related-transitive}
 use Rattle.theory.proofs.Formulas.{related-formulas, separates-like}
@@ -48,6 +50,11 @@ placed-related n k p m b s l = related-by p m _ (Placed n k) (placed-decided n k
 raised-none : (xs : List (ℕ × ℕ)) → xs ≡ map (raised 0) xs
 raised-none [] = refl
 raised-none (x ∷ xs) = ap₂ (λ (v : ℕ) (vs : List (ℕ × ℕ)). (x .0, v) ∷ vs) (sym (zero-add (x .1))) (raised-none xs)
+
+-- the joined procedure is the two side by side
+pub joined-joins : (p q : Meaning) → Joins p q (joined p q)
+joined-joins p q =
+    record { counts = refl; left-ends = beside.left-ends p q; left-steps = beside.left-steps p q; right-ends = λ t _. beside.right-ends p q t; right-steps = λ t _. beside.right-steps p q t }
 
 module _ (p q m : Meaning) (j : Joins p q m) where
   left-ends : (s : ℕ) → s < p .count → m .ends (0 + s) ≡ p .ends s

@@ -3,10 +3,7 @@ use Prim.Native.Nat.{ℕ, _+_, _<_}
 use mathlib.Core.List.{map}
 use mathlib.Core.Path.{_≡_}
 use Rattle.lts.specs.Meaning.{Meaning}
-
--- a step whose target is n states further on
-abbrev pub raised : ℕ → ℕ × ℕ → ℕ × ℕ
-raised n x = (x .0, n + x .1)
+use Rattle.lts.specs.Joined.{raised}
 
 -- m is p and q side by side: state t of q is state p .count + t of m
 pub record Joins (p q m : Meaning) : Type 0 where

@@ -1,0 +1,14 @@
+pub mod Pairs
+pub mod Tables
+pub mod Contrasts
+pub mod Sending
+pub mod Marking
+pub mod Splitting
+pub mod Rounding
+pub mod Joining
+pub mod Parting
+pub mod Closing
+pub mod Zero
+pub mod Watching
+pub mod Ending
+pub mod Reporting

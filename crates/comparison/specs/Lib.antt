@@ -1,0 +1,12 @@
+pub mod Reach
+pub mod Marks
+pub mod Landing
+pub mod Holding
+pub mod Drafts
+pub mod Standing
+pub mod Ended
+pub mod Found
+pub mod Outcomes
+pub mod Faults
+pub mod Compared
+pub mod Buffers
