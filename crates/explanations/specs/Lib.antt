@@ -2,3 +2,4 @@ pub mod Texts
 pub mod Formulas
 pub mod Offsets
 pub mod Ways
+pub mod Explanations

@@ -31,13 +31,13 @@ abbrev pub listed : Bool → List (List ℕ) → List ℕ
 listed fresh [] = []
 listed fresh (x ∷ xs) = cond fresh (codes ": ") (codes ", ") ++ (x ++ listed false xs)
 
--- the states of class c, of `count` states in all
-abbrev pub class-text : ℕ → ℕ → List ℕ → ℕ → List ℕ
-class-text n count classes c = codes "class " ++ (decimal c ++ (listed true (map (state-text n) (members classes c count)) ++ codes "\n"))
+-- class c with its states; `classes` has the class of each state
+abbrev pub class-text : ℕ → List ℕ → ℕ → List ℕ
+class-text n classes c = codes "class " ++ (decimal c ++ (listed true (map (state-text n) (members classes c (length classes))) ++ codes "\n"))
 
 -- all K classes
-abbrev pub classes-text : ℕ → ℕ → List ℕ → ℕ → List ℕ
-classes-text n count classes K = joined (class-text n count classes) (counting 0 K)
+abbrev pub classes-text : ℕ → List ℕ → ℕ → List ℕ
+classes-text n classes K = joined (class-text n classes) (counting 0 K)
 
 abbrev pub line-text : Line → List ℕ
 line-text True = codes "T"

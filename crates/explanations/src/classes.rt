@@ -58,7 +58,7 @@ fn push_class(
     classes: &[u16],
     c: u16,
 ) -> Result<(), AllocError>
-    ensures { λ r. ⌜ made r (λ _. string-bytes (now (out .exit)) ≡ string-bytes (now (out .entry)) ++ class-text n (length (now (classes .entry))) (now (classes .entry)) c) ⌝ }
+    ensures { λ r. ⌜ made r (λ _. string-bytes (now (out .exit)) ≡ string-bytes (now (out .entry)) ++ class-text n (now (classes .entry)) c) ⌝ }
 {
     let head = format!(heap, "class {c}")?;
     out.push_str(head.as_str())?;
@@ -75,7 +75,7 @@ pub fn push_classes(
     classes: &[u16],
     count: u16,
 ) -> Result<(), AllocError>
-    ensures { λ r. ⌜ made r (λ _. string-bytes (now (out .exit)) ≡ string-bytes (now (out .entry)) ++ classes-text n (length (now (classes .entry))) (now (classes .entry)) count) ⌝ }
+    ensures { λ r. ⌜ made r (λ _. string-bytes (now (out .exit)) ≡ string-bytes (now (out .entry)) ++ classes-text n (now (classes .entry)) count) ⌝ }
 {
     for c in 0..count {
         push_class(out, heap, n, classes, c)?;
