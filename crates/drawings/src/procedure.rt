@@ -16,9 +16,9 @@ use std::fmt;
 
 // An action as it is written: its character, or its number behind `#`.
 #[derive(Clone, Copy)]
-struct ActionName(u8);
+pub struct ActionName(pub u8);
 
-impl fmt::Display for ActionName as ActionNameDisplay {
+pub impl fmt::Display for ActionName as ActionNameDisplay {
     ghost shown = { λ x. Some (action-text (x .0)) };
 
     fn fmt<W: fmt::Write>(&self, f: &mut fmt::Formatter<W>) -> fmt::Result {

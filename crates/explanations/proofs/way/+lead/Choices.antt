@@ -1,0 +1,4 @@
+use Rattle.explanations.proofs.way.+lead.Given as given
+
+abbrev pub μ-lead : given.MeasureT-lead
+μ-lead l = l .i
