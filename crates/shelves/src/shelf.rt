@@ -6,6 +6,7 @@ use crate::slots::Slots;
 
 mod calls;
 
+#[derive(Drop)]
 pub struct Shelf {
     number: u16,
     slots: Slots,
