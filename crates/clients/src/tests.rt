@@ -22,6 +22,22 @@ fn number<T: Drop>(answer: Result<T, ShelfFault>) -> u8 {
     }
 }
 
+// Forty updates of slot 7, by two versions in turn.
+fn release_forty(
+    shelf: &mut Shelf,
+    versions: &[Term; 2],
+    lines: &mut [Line],
+    classes: &mut [u16],
+) -> Result<(), Fail> {
+    for k in 0..40usize {
+        check_eq(
+            number(update(shelf, 7, &versions[k % 2], lines, classes)),
+            0,
+        )?;
+    }
+    Ok(())
+}
+
 // Each release is held only against the one before; the last is the same as the first.
 #[test]
 fn forty_releases() -> Result<(), Fail> {
@@ -31,10 +47,7 @@ fn forty_releases() -> Result<(), Fail> {
     let versions = [Term::read(b"a.(c+b)")?, Term::read(b"a.(b+c)+a.(c+b)")?];
     let mut shelf = Shelf::new(1);
     check_eq(number(shelf.file(7, &first)), 0)?;
-    for k in 0..40usize {
-        let next = versions[k % 2];
-        check_eq(number(update(&mut shelf, 7, &next, &mut lines, &mut classes)), 0)?;
-    }
+    release_forty(&mut shelf, &versions, &mut lines, &mut classes)?;
     let report = compare(&first, &versions[1], &mut lines, &mut classes)?;
     check_eq(number(shelf.file(7, &first)), 21)?;
     check(matches!(report.verdict, Verdict::Same))
@@ -44,7 +57,8 @@ fn forty_releases() -> Result<(), Fail> {
 #[test]
 fn rows() -> Result<(), Fail> {
     let mut lines = [Line::True; 64];
-    let mut classes = [0u16; 16];
+    let mut classes = [0u16; 9];
+    let mut small = [0u16; 8];
     let term = Term::read(b"a.(b+c)")?;
     let other = Term::read(b"a.b+a.c")?;
     let mut shelf = Shelf::new(0);
@@ -55,8 +69,11 @@ fn rows() -> Result<(), Fail> {
     check_eq(number(shelf.file(7, &term)), 0)?;
     check_eq(number(shelf.file(7, &term)), 21)?;
     check_eq(number(discard(&mut shelf, 7)), 27)?;
-    check_eq(number(shelf.submit(7, &other, &mut lines, &mut classes[0..8])), 25)?;
-    check_eq(number(shelf.submit(7, &other, &mut lines, &mut classes[0..9])), 26)?;
+    check_eq(number(shelf.submit(7, &other, &mut lines, &mut small)), 25)?;
+    check_eq(
+        number(shelf.submit(7, &other, &mut lines, &mut classes)),
+        26,
+    )?;
     check_eq(number(shelf.submit(7, &term, &mut lines, &mut classes)), 0)?;
     check_eq(number(shelf.submit(7, &term, &mut lines, &mut classes)), 23)?;
     check_eq(number(discard(&mut shelf, 7)), 0)
