@@ -8,9 +8,9 @@ use mathlib.Core.Logic.{inl, inr, ⊎-elim}
 use mathlib.Core.Path.{_≡_, refl, sym, ap, subst, _∙_}
 use lib.ListN.{length, getD, take}
 use Rattle.std.specs.Finite.{nth}
-use Rattle.std.specs.declared.option.Option.the-variants.{None, Some}
+use Rattle.std.specs.declared.option.Option.the-variants.{Some}
 use Rattle.std.proofs.shelf.Lists.{length-append, getD-append-left, getD-append-add}
-use Rattle.lts.specs.Meaning.{Meaning, In}
+use Rattle.lts.specs.Meaning.{In}
 use Rattle.lts.specs.Laws.Member.{in-either, nth-in, nth-inside, nth-left, nth-right}
 use Rattle.theory.specs.Formulas.{Formula}
 use Rattle.terms.specs.Grammar.{Letter, Level, Spells, sum, action, bracket, one-operand, more-operands, one-product, more-products}
