@@ -11,17 +11,16 @@ use Rattle.std.specs.declared.option.Option.{Option}
 use Rattle.std.specs.declared.option.Option.the-variants.{None, Some}
 use Rattle.std.proofs.shelf.Bits.{mul-le}
 use Rattle.std.proofs.shelf.Lists.{getD-drop, joined-more, take-more}
-use Rattle.lts.specs.Meaning.{Meaning, In, Lawful}
-use Rattle.lts.specs.Laws.Member.{nth-in, in-nth, nth-inside}
+use Rattle.lts.specs.Meaning.{Meaning, Lawful}
+use Rattle.lts.specs.Laws.Member.{nth-in, in-nth}
 use Rattle.theory.specs.Formulas.{Formula, T, E, N, A, D, Holds}
 use Rattle.formulas.specs.declared.fault.EvaluationFault.{EvaluationFault}
 use Rattle.formulas.specs.declared.line.Line.{Line}
 use Rattle.formulas.specs.declared.line.Line.the-variants.{True, End, Not, Both, Step}
 use Rattle.formulas.specs.Faults.{first-fault}
 use Rattle.formulas.proofs.Rows.{not-refused}
-use Rattle.formulas.specs.Evaluation.{Marks, RowsMarked}
+use Rattle.formulas.specs.Evaluation.{Marks}
 use Rattle.formulas.specs.Lines.{Wellformed, formula}
-use Rattle.formulas.proofs.Stepping.{NoneOf}
 use Rattle.explanations.specs.Ways.{first-of, lead, First, FirstMarked, Leads, Marked, Way, offset-text, way-text}
 use Rattle.explanations.specs.Offsets.{action-offset}
 use Rattle.explanations.proofs.Spelling.{is-true, is-end, is-not, is-both, is-step}
@@ -133,10 +132,6 @@ row-inside m lines work n j marked e h =
     let c = one-mul (m .count) in
     let d = marked .room in
     rw e (omega arith)
-
--- all lines are marked
-pub all-marked : (m : Meaning) (lines : List Line) (work : List ℕ) → Wellformed lines → length lines * m .count ≤ length work → RowsMarked m lines (length lines) work → Marked m lines work
-all-marked m lines work w r k = record { well = w; room = r; marks = k }
 
 -- the evaluation is not refused
 pub not-refused-at-start : (m : Meaning) {most : ℕ} (lawful : Lawful most m) (lines : List Line) (i room : ℕ) (fault : EvaluationFault) → Wellformed lines → length lines ≤ 1024 → i < length lines → length lines * m .count ≤ room → first-fault lines i 0 (m .count) room ≡ Some fault → ⊥

@@ -1,8 +1,10 @@
 pub mod Counting
 pub mod Following
+pub mod Leaves
 pub mod Letters
 pub mod Listing
 pub mod Pieces
 pub mod Spelling
 pub mod Telling
+pub mod Places
 pub mod Seeking

@@ -9,7 +9,6 @@ use lib.ListN.{getD}
 use Rattle.std.specs.Iters.{counting}
 use Rattle.std.specs.shelf.Lists.{kept-by}
 use Rattle.std.proofs.shelf.Elements.{kept-by-append}
-use Rattle.std.proofs.shelf.Lists.{map-push}
 use Rattle.std.proofs.shelf.Tests.{eq-eqb, ne-eqb}
 use Rattle.explanations.specs.Texts.{state-text, members, listed}
 use Rattle.explanations.proofs.Counting.{counting-more}

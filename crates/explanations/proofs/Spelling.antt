@@ -1,8 +1,8 @@
 -- The formula of a line, by its letter, and the room that its text takes.
 use Prim.Native.Nat.{ℕ, _+_, _-_, _<_, _≤_}
 use native.Mathlib.Omega.{arith}
-use mathlib.Core.Bool.{true, false}
-use mathlib.Core.List.{List, [], _∷_, _++_}
+use mathlib.Core.Bool.{true}
+use mathlib.Core.List.{List, [], _++_}
 use mathlib.Core.Logic.{⊎-elim}
 use mathlib.Core.Path.{_≡_, refl, sym, ap, _∙_}
 use lib.Chars.{codes}
@@ -10,14 +10,14 @@ use lib.ListN.{length, getD}
 use Rattle.std.specs.declared.option.Option.{Option}
 use Rattle.std.specs.declared.option.Option.the-variants.{None, Some}
 use Rattle.std.specs.Numbers.{Checked}
-use Rattle.std.specs.Written.{decimal, digits}
+use Rattle.std.specs.Written.{digits}
 use Rattle.std.proofs.shelf.Lists.{length-append}
 use Rattle.std.proofs.shelf.Tests.{leb-true, ltb-true, le-leb, lt-leb, lt-ltb, le-ltb, and-parts, cases-lt, cases-eq}
 use Rattle.theory.specs.Formulas.{Formula, T, E, N, A, D}
 use Rattle.terms.specs.Grammar.{Letter, small, capital, digit}
 use Rattle.drawings.specs.Texts.{action-text}
 use Rattle.formulas.specs.declared.line.Line.{Line}
-use Rattle.formulas.specs.declared.line.Line.the-variants.{True, End, Not, Both, Step, Unknown}
+use Rattle.formulas.specs.declared.line.Line.the-variants.{True, End, Not, Both, Step}
 use Rattle.formulas.specs.Lines.{fits, Wellformed, made-of, formulas-from, formula}
 use Rattle.formulas.proofs.Growing.{formula-at}
 use Rattle.explanations.specs.Formulas.{formula-text, room-behind, written}
@@ -43,9 +43,6 @@ module _ (lines : List Line) (well : Wellformed lines) (i : ℕ) (inside : i < l
 
   pub is-step : (a j : ℕ) → getD lines i True ≡ Step a j → (a ≤ 63) × (j < i) × (formula lines i ≡ D a (formula lines j))
   is-step a j e = let p = and-parts _ _ (fit (Step a j) e) in (leb-true a 63 (p .0), ltb-true j i (p .1), made (Step a j) e)
-
-  pub never-unknown : (c : ℕ) → getD lines i True ≡ Unknown c → ⊥
-  never-unknown c e = let f = fit (Unknown c) e in let z : _≡_ {A = ℕ} 0 1 = cc in omega arith
 
   pub true-length : getD lines i True ≡ True → length (formula-text (formula lines i)) ≡ 1
   true-length e = ap (λ f. length (formula-text f)) (is-true e)

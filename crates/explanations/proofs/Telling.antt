@@ -1,10 +1,9 @@
 -- What a comparison answers can be told.
-use Prim.Native.Nat.{ℕ, _+_, _-_, _*_, _<_, _≤_}
+use Prim.Native.Nat.{ℕ, _*_, _≤_}
 use native.Mathlib.Omega.{arith}
-use mathlib.Core.List.{List, []}
-use mathlib.Core.Path.{_≡_, refl, sym, ap, subst, _∙_}
+use mathlib.Core.List.{List}
+use mathlib.Core.Path.{_≡_}
 use lib.ListN.{length, getD, take}
-use Rattle.std.specs.declared.option.Option.the-variants.{None, Some}
 use Rattle.std.proofs.shelf.Bits.{mul-le}
 use Rattle.std.proofs.shelf.Lists.{length-take-le}
 use Rattle.std.proofs.shelf.Tests.{ltb-true}
@@ -14,14 +13,12 @@ use Rattle.theory.specs.Bisimulation.{Related}
 use Rattle.theory.specs.Rounds.{all-of}
 use Rattle.theory.proofs.Counting.{number-below}
 use Rattle.theory.proofs.Numberings.{count-few}
-use Rattle.terms.specs.declared.fault.TermFault.{TermFault}
-use Rattle.terms.specs.Scan.{first-refusal}
 use Rattle.formulas.specs.declared.line.Line.{Line}
 use Rattle.comparison.specs.declared.report.Report.{Report}
 use Rattle.comparison.specs.declared.report.Verdict.{Verdict}
 use Rattle.comparison.specs.declared.report.Verdict.the-variants.{Same, Different}
 use Rattle.comparison.specs.Compared.{Judged, Reported}
-use Rattle.explanations.specs.Explanations.{Usable, Tellable, Told, Answer, Explained, refused-text}
+use Rattle.explanations.specs.Explanations.{Usable, Tellable}
 
 tellable : (p q : Meaning) (K : ℕ) (lines lines′ : List Line) (v : Verdict) → p .count ≤ 64 → K ≤ 128 → length lines′ ≡ 512 → Judged p q K lines v lines′ → Tellable p v lines′
 tellable p q K lines lines′ Same small few room h = tt
@@ -42,11 +39,3 @@ marks-room m n i lines u =
     let e = length-take-le n lines (u .room) in
     let a = mul-le (length (take n lines)) (m .count) 512 64 (omega (arith, u .few)) (u .small) in
     omega arith
-
-pub not-short : (n lines classes : ℕ) → n ≤ 128 → lines ≡ 512 → classes ≡ 128 → (lines < 4 * n - 3 → ⊥) × (classes < n → ⊥)
-not-short n lines classes h l c = (λ x. omega arith, λ x. omega arith)
-
--- by the refusals of the two texts
-module _ (left right out : List ℕ) where
-  pub both-read : None ≡ first-refusal left → None ≡ first-refusal right → Told left right out → Explained left right out
-  both-read e f t = subst (λ o. Answer o (first-refusal right) left right out) e (subst (λ o. Answer None o left right out) f t)

@@ -9,7 +9,7 @@ use Rattle.std.specs.declared.option.Option.{Option}
 use Rattle.std.specs.declared.option.Option.the-variants.{None, Some}
 use Rattle.std.specs.declared.result.Result.the-variants.{Ok}
 use Rattle.refusals.specs.Texts.{refusal-text}
-use Rattle.lts.specs.Meaning.{Meaning}
+use Rattle.lts.specs.Meaning.{Meaning, In}
 use Rattle.theory.specs.Formulas.{Holds}
 use Rattle.terms.specs.declared.fault.TermFault.{TermFault}
 use Rattle.terms.specs.Faults.{of-term}
@@ -30,6 +30,7 @@ use Rattle.explanations.specs.declared.side.Side.{Side}
 use Rattle.explanations.specs.declared.side.Side.the-variants.{Left, Right}
 use Rattle.explanations.specs.Texts.{side-text, classes-text, lines-text}
 use Rattle.explanations.specs.Formulas.{readable-text}
+use Rattle.explanations.specs.Offsets.{Stands}
 use Rattle.explanations.specs.Ways.{Way, way-text}
 
 -- `left refused 12 at 2`
@@ -84,7 +85,7 @@ summary-text left right p q report classes =
     procedure-text Left left p ++ (procedure-text Right right q ++ (verdict-text report ++ classes-text (p .count) (take (p .count + q .count) classes) (report .classes)))
 
 -- The texts spell terms, whose graphs were compared over buffers of 512 lines and 128 class numbers, and the report
--- and the buffers are told.
+-- and the buffers are told. Each step that is named stands in the left text where it is said to.
 pub record Told (left right out : List ℕ) : Type 0 where
   pub t : Tree
   pub u : Tree
@@ -96,6 +97,7 @@ pub record Told (left right out : List ℕ) : Type 0 where
   pub compared : Compared (graph t) (graph u) (replicate 512 True) (replicate 128 0) (Ok report) lines classes
   pub steps : List (ℕ × ℕ)
   pub followed : Followed (graph t) (report .verdict) lines steps
+  pub stands : (step : ℕ × ℕ) → In step steps → Stands left step
   pub text : out ≡ summary-text left right (graph t) (graph u) report classes ++ outcome-text left (report .verdict) lines steps
 
 -- by the refusals of the two texts

@@ -1,9 +1,7 @@
 use borrow.Author.Needs.{needs}
 use native.Mathlib.Omega.{arith}
 use Prim.Native.Nat.{_+_, _≤_}
-use mathlib.Core.Path.{_∙_, sym}
-use lib.ListN.{length}
-use Rattle.drawings.specs.Texts.{action-text}
+use mathlib.Core.Path.{_∙_}
 use Rattle.formulas.specs.Lines.{formula}
 use Rattle.explanations.specs.Formulas.{formula-text}
 use Rattle.explanations.proofs.Spelling.{is-step, action-length, true-length, end-length, not-length, both-length, step-length, room-one, room-more, room-short, room-both, room-first}

@@ -2,7 +2,6 @@ use mathlib.Core.List.{_++_}
 use mathlib.Core.Path.{_∙_, ap}
 use Rattle.std.specs.Of.String.{string-bytes}
 use Rattle.formulas.specs.Lines.{formula}
-use Rattle.explanations.specs.Formulas.{formula-text}
 use Rattle.explanations.proofs.Pieces.{two-pieces}
 use Rattle.explanations.proofs.Spelling.{short-enough, too-long}
 use Rattle.explanations.proofs.formula.push_readable.Needs as need

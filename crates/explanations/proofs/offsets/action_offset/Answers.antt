@@ -1,4 +1,4 @@
-use mathlib.Core.Path.{_≡_, sym, _∙_}
+use mathlib.Core.Path.{sym, _∙_}
 use Rattle.explanations.proofs.Seeking.{no-action, found, passed, none-left}
 use Rattle.explanations.proofs.offsets.action_offset.Needs as need
 use Rattle.explanations.proofs.offsets.action_offset.Needs.{then-is-action·else-ahead-eq1, else-is-action}

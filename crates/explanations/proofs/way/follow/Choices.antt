@@ -1,5 +1,4 @@
 use Rattle.std.specs.Of.Vec.{vec-items}
-use Rattle.formulas.specs.Lines.{formula}
 use Rattle.explanations.proofs.Following.{Underway}
 use Rattle.explanations.proofs.way.follow.Given as given
 

@@ -1,4 +1,3 @@
-use Rattle.std.proofs.shelf.Lists.{length-replicate}
 use Rattle.explanations.proofs.Following.{not-refused-at-start}
 use Rattle.explanations.proofs.way.way.Needs as need
 
