@@ -26,7 +26,8 @@ fn compare_pair<'a, 'b, const M: usize, const N: usize, L: Source<M>, R: Source<
     }
     let mut script = Script::new();
     let start = system.left.states();
-    let found = compared(system, start, &mut script);
+    let most = L::MOST.states + R::MOST.states;
+    let found = compared(system, start, most, &mut script);
     put_front(&found.classes.class, n, classes);
     let verdict = judged(found.starts, &script, lines);
     Ok(Report {

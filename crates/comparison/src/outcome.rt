@@ -1,5 +1,5 @@
 // All rounds, up to the first that changes nothing.
-ghost use Prim.Native.Nat.{_<_};
+ghost use Prim.Native.Nat.{_≤_, _<_};
 ghost use mathlib.Core.List.{[]};
 ghost use mathlib.Core.Path.{_≡_};
 ghost use Rattle.comparison.specs.Marks.{written};
@@ -20,8 +20,9 @@ pub struct Outcome {
     pub starts: Starts,
 }
 
-// The right start is state `right`.
-pub fn compared<S: System>(system: &S, right: usize, script: &mut Script) -> Outcome
+// The right start is state `right`; there are at most `most` states, and so fewer rounds.
+pub fn compared<S: System>(system: &S, right: usize, most: usize, script: &mut Script) -> Outcome
+    requires few { ⌜ meaning (now system) .count ≤ most ⌝ }
     requires inside { ⌜ right < meaning (now system) .count ⌝ }
     requires empty { ⌜ written (now script) ≡ [] ⌝ }
     ensures { λ r. ⌜ Compares (meaning (now (system .entry))) right (written (now (script .exit))) r ⌝ }
@@ -30,8 +31,7 @@ pub fn compared<S: System>(system: &S, right: usize, script: &mut Script) -> Out
     let mut there = Held::new();
     let mut classes = by_ends(system, script);
     let mut starts = Starts::Alike;
-    let mut k = 0;
-    loop {
+    for k in 0..most {
         starts = starts.watch(&classes, k, right);
         let next = refined(system, k, &classes, &mut here, &mut there, script);
         if next.count == classes.count {
@@ -42,6 +42,6 @@ pub fn compared<S: System>(system: &S, right: usize, script: &mut Script) -> Out
             };
         }
         classes = next;
-        k += 1;
     }
+    unreachable()
 }

@@ -22,7 +22,7 @@ fn bare<const N: usize, S: Source<N>>(source: &S) -> Procedure
     ensures { λ r. ⌜ Filled (meaning (now (source .entry))) 0 0 r ⌝ }
 {
     let mut ends = [false; 128];
-    for s in 0..source.states() {
+    for s in 0..S::MOST.states {
         ends[s] = source.is_end(s);
     }
     Procedure {

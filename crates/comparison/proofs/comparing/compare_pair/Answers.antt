@@ -12,7 +12,7 @@ compared-found-requires g c κs =
     let q = g .R·Source .meaning (c .args .system .now .right .now) in
     let law-p = g .L·Source .lawful (c .args .system .now .left .now) in
     let law-q = g .R·Source .lawful (c .args .system .now .right .now) in
-    record { inside = start-inside p q law-p law-q (g .L·Source .bounded) (g .R·Source .bounded) (c .states-start .result) (c .states-start .ensures); empty = c .new-script .ensures }
+    record { few = (let l = g .L·Source .lawful (c .args .system .now .left .now) .few in let r = g .R·Source .lawful (c .args .system .now .right .now) .few in let x = c .MOST .result .tied in let y = c .MOST-2 .result .tied in omega arith); inside = start-inside p q law-p law-q (g .L·Source .bounded) (g .R·Source .bounded) (c .states-start .result) (c .states-start .ensures); empty = c .new-script .ensures }
 
 pub judged-verdict-requires : need.judged-verdict-requires
 judged-verdict-requires g c κs =
