@@ -1,6 +1,8 @@
 // Tests of the libraries together.
 
 #[cfg(test)]
+mod compared;
+#[cfg(test)]
 mod drawn;
 #[cfg(test)]
 mod mapped;
