@@ -66,11 +66,12 @@ def library_names():
     return taken
 
 
-def rewritten(text, table, comment):
+def rewritten(text, table, comment, of_function):
     def spelled(m):
         # a step of a function's proof, as c.step-at, is named after the code
-        step = m.string[max(0, m.start() - 3):m.start()]
-        return m.group(0) if re.search(r"(?:^|[^\w'-])[cwl]\.$", step) else table.get(m.group(0), m.group(0))
+        before = m.string[max(0, m.start() - 3):m.start()]
+        is_step = of_function and re.search(r"(?:^|[^\w'-])c\.$", before)
+        return m.group(0) if is_step else table.get(m.group(0), m.group(0))
 
     lines = []
     for line in text.split("\n"):
@@ -102,7 +103,7 @@ def main():
         for path in files(ending):
             with open(path, encoding="utf-8") as text:
                 old = text.read()
-            new = rewritten(old, table, comment)
+            new = rewritten(old, table, comment, re.search(r"/proofs/.+/", path))
             if new != old:
                 with open(path, "w", encoding="utf-8") as text:
                     text.write(new)

@@ -1,5 +1,8 @@
 // The account of a shelf: what its five calls answer and leave, and the law over all their runs.
 // Theorems only: each function's contract is what its name tells, and it answers 0.
+
+#![tactic(auto)]
+
 ghost use Rattle.std.specs.Prelude.{◌≡◌};
 ghost use Rattle.accounts.specs.Law.{Determined, Lasting};
 

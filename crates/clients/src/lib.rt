@@ -1,4 +1,7 @@
 // The shelf as a customer's program uses it.
+
+#![tactic(auto)]
+
 use comparison::Report;
 use formulas::Line;
 use lts::Source;

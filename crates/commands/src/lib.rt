@@ -1,4 +1,7 @@
 // The lines of a console: what is typed, and what is answered.
+
+#![tactic(auto)]
+
 pub mod command;
 pub mod fault;
 pub mod input;

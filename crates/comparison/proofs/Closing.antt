@@ -96,8 +96,8 @@ module _ {most : ℕ} (m : Meaning) (law : Lawful most m) (k s : ℕ) (old : Par
       record {
         based =
             record {
-              class_size = w.class-size;
-              marks_size = w.marks-size;
+              class_size = w.class_size;
+              marks_size = w.marks_size;
               numbering = next_numbering;
               marked = λ c l. marks_like m lines (suc k) (numbers x.next.marks c) _ _ (λ t lt. (λ e. settled t lt ∙ e, λ e. sym (settled t lt) ∙ e)) (w.marked c l);
             };

@@ -25,17 +25,17 @@ module _ (m : Meaning) (k s : ℕ) (old : Partition) (lines : List Line) (x : Dr
       before t l = let ne : t ≢ s = omega arith in get_or-set_other x.next.class s t d 0 ne ∙ w.settled t l
 
       last : get_or (set x.next.class s d) s 0 ≡ land m old x s
-      last = let n = w.class-size in let l : s < length x.next.class = omega arith in get_or-set_same x.next.class s d 0 l ∙ sym is
+      last = let n = w.class_size in let l : s < length x.next.class = omega arith in get_or-set_same x.next.class s d 0 l ∙ sym is
 
   -- s joins the class where it lands, whose leader it is like
   pub join_works : (d l : ℕ) → land m old x s ≡ d → get_or x.leaders d None ≡ Some l → Alike m (numbers old.class) s l → Working m k (s + 1) old lines (joined x s d)
   join_works d l is led_by like =
       record {
         based = w.based;
-        class_size = length-set x.next.class s d ∙ w.class-size;
-        marks_size = w.marks-size;
-        splits_size = w.splits-size;
-        leaders_size = w.leaders-size;
+        class_size = length-set x.next.class s d ∙ w.class_size;
+        marks_size = w.marks_size;
+        splits_size = w.splits_size;
+        leaders_size = w.leaders_size;
         counted = w.counted;
         drawn = w.drawn;
         landing = w.landing;
@@ -52,10 +52,10 @@ module _ (m : Meaning) (k s : ℕ) (old : Partition) (lines : List Line) (x : Dr
   lead_works d is like =
       record {
         based = w.based;
-        class_size = length-set x.next.class s d ∙ w.class-size;
-        marks_size = w.marks-size;
-        splits_size = w.splits-size;
-        leaders_size = length-set x.leaders d (Some s) ∙ w.leaders-size;
+        class_size = length-set x.next.class s d ∙ w.class_size;
+        marks_size = w.marks_size;
+        splits_size = w.splits_size;
+        leaders_size = length-set x.leaders d (Some s) ∙ w.leaders_size;
         counted = w.counted;
         drawn = w.drawn;
         landing = w.landing;
@@ -69,7 +69,7 @@ module _ (m : Meaning) (k s : ℕ) (old : Partition) (lines : List Line) (x : Dr
     where
       room : d < length x.leaders
       room =
-          let n = w.leaders-size in
+          let n = w.leaders_size in
           let b = w.landing.below s state in
           let f = landing_few m k (numbers old.class) x.next.count (land m old x) w.landing in
           omega arith

@@ -120,10 +120,10 @@ module _ {most : ℕ} (m : Meaning) (law : Lawful most m) (few : most ≤ 256) (
       let b = r.1 in
       let c = r.3 in
       let f = law.few in
-      let i = w.class-size in
-      let j = w.marks-size in
-      let u = w.splits-size in
-      let v = w.leaders-size in
+      let i = w.class_size in
+      let j = w.marks_size in
+      let u = w.splits_size in
+      let v = w.leaders_size in
       record { state = omega arith; number = omega arith; room = a; splits = omega arith; made = b; from = omega arith; marks = omega arith; leaders = omega arith }
 
   pub from_low : y.from < 256
@@ -141,7 +141,7 @@ module _ {most : ℕ} (m : Meaning) (law : Lawful most m) (few : most ≤ 256) (
 
     land_after : (t : ℕ) → land m old after t ≡ moved (land m old x) test y.from e t
     land_after t =
-        let room : x.made < length x.splits = let r = part_room.1 in let z = w.splits-size in omega arith in
+        let room : x.made < length x.splits = let r = part_room.1 in let z = w.splits_size in omega arith in
         let more = sent_more (λ a c. hits n a c (m.steps t)) x.splits old.count (n t) x.made y room in
         subst (λ (v : ℕ). land m old after t ≡ moved (land m old x) test y.from v t) (sym w.counted) more
 
@@ -180,13 +180,13 @@ module _ {most : ℕ} (m : Meaning) (law : Lawful most m) (few : most ≤ 256) (
 
         last : get_or (set x.next.class s e) s 0 ≡ land m old after s
         last =
-            let z = w.class-size in
+            let z = w.class_size in
             let f = law.few in
             let room : s < length x.next.class = omega arith in
             get_or-set_same x.next.class s e 0 room ∙ sym lands_new
 
     leaders_room : e < length x.leaders
-    leaders_room = let r = part_room.0 in let z = w.leaders-size in omega arith
+    leaders_room = let r = part_room.0 in let z = w.leaders_size in omega arith
 
     leads_after : (c u : ℕ) → get_or (set x.leaders e (Some s)) c None ≡ Some u → (u < s + 1) × (land m old after u ≡ c)
     leads_after c u h = ⊎_elim same other (cases_eq c e)
@@ -227,7 +227,7 @@ module _ {most : ℕ} (m : Meaning) (law : Lawful most m) (few : most ≤ 256) (
 
         last : DrawnAt (get_or (set x.splits x.made y) x.made unsplit)
         last =
-            let room : x.made < length x.splits = let r = part_room.1 in let z = w.splits-size in omega arith in
+            let room : x.made < length x.splits = let r = part_room.1 in let z = w.splits_size in omega arith in
             subst DrawnAt (sym (get_or-set_same x.splits x.made y unsplit room)) (record { action = parts.action; into = parts.into })
 
     into_mark : Marks m lines k (numbers old.marks y.into) (λ u. n u ≡ y.into)
@@ -266,7 +266,7 @@ module _ {most : ℕ} (m : Meaning) (law : Lawful most m) (few : most ≤ 256) (
     marked_after = below_more _ e before last
       where
         size : length x.next.marks ≡ 256
-        size = w.marks-size
+        size = w.marks_size
 
         room : e < 256
         room = part_room.0
@@ -312,10 +312,10 @@ module _ {most : ℕ} (m : Meaning) (law : Lawful most m) (few : most ≤ 256) (
         let count = w.counted in
         record {
           based = based_after;
-          class_size = length-set x.next.class s e ∙ w.class-size;
-          marks_size = length-set (set x.next.marks y.from stay) e gone ∙ (length-set x.next.marks y.from stay ∙ w.marks-size);
-          splits_size = length-set x.splits x.made y ∙ w.splits-size;
-          leaders_size = length-set x.leaders e (Some s) ∙ w.leaders-size;
+          class_size = length-set x.next.class s e ∙ w.class_size;
+          marks_size = length-set (set x.next.marks y.from stay) e gone ∙ (length-set x.next.marks y.from stay ∙ w.marks_size);
+          splits_size = length-set x.splits x.made y ∙ w.splits_size;
+          leaders_size = length-set x.leaders e (Some s) ∙ w.leaders_size;
           counted = omega arith;
           drawn = drawn_after;
           landing = after_landing;

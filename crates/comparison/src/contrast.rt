@@ -19,11 +19,11 @@ pub fn contrast<S: System>(
     theirs: usize,
     here: &mut Reach,
 ) -> Option<Split>
-    requires classes { (u : ℕ) → u < (meaning system.now).count → slice_index class.now u < 256 }
-    requires reached { Reached (numbers class.now) ((meaning system.now).steps s) here.old }
-    requires pairs { pairs ≡ weight (numbers class.now) ((meaning system.now).steps s) }
-    requires leads { theirs ≡ weight (numbers class.now) ((meaning system.now).steps leader) }
-    ensures { Contrast (meaning system.now) (numbers class.now) s leader from result }
+    requires classes { (u : ℕ) → u < (S.meaning system.now).count → slice_index class.now u < 256 }
+    requires reached { Reached (numbers class.now) ((S.meaning system.now).steps s) here.old }
+    requires pairs { pairs ≡ weight (numbers class.now) ((S.meaning system.now).steps s) }
+    requires leads { theirs ≡ weight (numbers class.now) ((S.meaning system.now).steps leader) }
+    ensures { Contrast (S.meaning system.now) (numbers class.now) s leader from result }
 {
     if pairs == theirs {
         let Some(_) = here.missing(system, class, leader as usize) else {

@@ -12,7 +12,7 @@ use lts::System;
 // Class 0 has the states that are like the start, class 1 the others. The second answer is how many
 // classes there are.
 fn end_classes<S: System>(system: &S) -> ([u16; 256], usize)
-    ensures { Ended (meaning system.now) (meaning system.now).count result.0 result.1 }
+    ensures { Ended (S.meaning system.now) (S.meaning system.now).count result.0 result.1 }
 {
     let start = system.is_end(0);
     let mut class = [0; 256];
@@ -31,7 +31,7 @@ fn end_classes<S: System>(system: &S) -> ([u16; 256], usize)
 // The classes of round 0, with the first lines.
 pub fn by_ends<S: System>(system: &S, script: &mut Script) -> Partition
     requires { written script.old ≡ [] }
-    ensures { Standing (meaning system.now) 0 (written script.new) result }
+    ensures { Standing (S.meaning system.now) 0 (written script.new) result }
 {
     let (class, count) = end_classes(system);
     if count == 1 {

@@ -1,5 +1,8 @@
 // Two procedures compared: the classes of their states, the rounds that tell them apart, and a formula
 // that shows a difference with as few nested steps as any.
+
+#![tactic(auto)]
+
 mod buffers;
 pub mod comparing;
 mod contrast;

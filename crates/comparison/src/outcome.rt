@@ -28,10 +28,10 @@ fn refine_all<S: System>(
     here: &mut Reach,
     script: &mut Script,
 ) -> Outcome
-    requires few { (meaning system.now).count ≤ most }
-    requires inside { right < (meaning system.now).count }
+    requires few { (S.meaning system.now).count ≤ most }
+    requires inside { right < (S.meaning system.now).count }
     requires empty { written script.old ≡ [] }
-    ensures { Compares (meaning system.now) right (written script.new) result }
+    ensures { Compares (S.meaning system.now) right (written script.new) result }
 {
     let mut classes = by_ends(system, script);
     let mut starts = Starts::Alike;
@@ -53,10 +53,10 @@ fn refine_all<S: System>(
 // The right start is state `right`; there are at most `most` states, and so fewer rounds. Where the steps
 // have room in a layout, the rounds go over that.
 pub fn compared<S: System>(system: &S, right: usize, most: usize, script: &mut Script) -> Outcome
-    requires few { (meaning system.now).count ≤ most }
-    requires inside { right < (meaning system.now).count }
+    requires few { (S.meaning system.now).count ≤ most }
+    requires inside { right < (S.meaning system.now).count }
     requires empty { written script.old ≡ [] }
-    ensures { Compares (meaning system.now) right (written script.new) result }
+    ensures { Compares (S.meaning system.now) right (written script.new) result }
 {
     let mut here = Reach::new();
     let mut layout = Layout::bare(system);

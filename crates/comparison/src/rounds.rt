@@ -19,8 +19,8 @@ pub fn refined<S: System>(
     here: &mut Reach,
     script: &mut Script,
 ) -> Partition
-    requires { Standing (meaning system.now) k (written script.old) old.now }
-    ensures standing { Standing (meaning system.now) (k + 1) (written script.new) result }
+    requires { Standing (S.meaning system.now) k (written script.old) old.now }
+    ensures standing { Standing (S.meaning system.now) (k + 1) (written script.new) result }
     ensures kept { Kept (written script.old) (written script.new) }
 {
     let mut draft = Draft::new(old);

@@ -26,10 +26,10 @@ fn found<S: System>(
     draft: &mut Draft,
     script: &mut Script,
 )
-    requires state { s < (meaning system.now).count }
-    requires working { Working (meaning system.now) k s old.now (written script.old) draft.old }
-    requires parting { Parting (meaning system.now) s old.now draft.old split }
-    ensures working { Working (meaning system.now) k (s + 1) old.now (written script.new) draft.new }
+    requires state { s < (S.meaning system.now).count }
+    requires working { Working (S.meaning system.now) k s old.now (written script.old) draft.old }
+    requires parting { Parting (S.meaning system.now) s old.now draft.old split }
+    ensures working { Working (S.meaning system.now) k (s + 1) old.now (written script.new) draft.new }
     ensures kept { Kept (written script.old) (written script.new) }
     ensures splits { draft.new.splits ≡ slice_set draft.old.splits draft.old.made split }
     ensures made { draft.new.made ≡ draft.old.made + 1 }
@@ -71,13 +71,13 @@ pub fn settle<S: System>(
     links: &mut Links,
     script: &mut Script,
 )
-    requires state { s < (meaning system.now).count }
-    requires working { Working (meaning system.now) k s old.now (written script.old) draft.old }
+    requires state { s < (S.meaning system.now).count }
+    requires working { Working (S.meaning system.now) k s old.now (written script.old) draft.old }
     requires linked { Linked old.now.count draft.old.splits draft.old.made links.old }
-    requires weighed { Weighed (meaning system.now) (numbers old.now.class) s weights.old }
-    ensures working { Working (meaning system.now) k (s + 1) old.now (written script.new) draft.new }
+    requires weighed { Weighed (S.meaning system.now) (numbers old.now.class) s weights.old }
+    ensures working { Working (S.meaning system.now) k (s + 1) old.now (written script.new) draft.new }
     ensures linked { Linked old.now.count draft.new.splits draft.new.made links.new }
-    ensures weighed { Weighed (meaning system.now) (numbers old.now.class) (s + 1) weights.new }
+    ensures weighed { Weighed (S.meaning system.now) (numbers old.now.class) (s + 1) weights.new }
     ensures kept { Kept (written script.old) (written script.new) }
 {
     let pairs = here.mark(system, &old.class, s);

@@ -1,4 +1,7 @@
 // The console: a shelf and an action map, worked line by line.
+
+#![tactic(auto)]
+
 mod calls;
 pub mod console;
 pub mod theorem;

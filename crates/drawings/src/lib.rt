@@ -1,4 +1,7 @@
 // Procedures written out for people and for other tools.
+
+#![tactic(auto)]
+
 pub mod form;
 pub mod input;
 pub mod procedure;

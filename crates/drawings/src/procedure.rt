@@ -98,7 +98,7 @@ fn push_steps<const N: usize, S: Source<N>>(
     s: usize,
     end: bool,
 ) -> Result<(), AllocError>
-    ensures { OnOk result (string_bytes out.new ≡ string_bytes out.old ++ steps_text form s (not end) ((meaning source.now).steps s)) }
+    ensures { OnOk result (string_bytes out.new ≡ string_bytes out.old ++ steps_text form s (not end) ((S.meaning source.now).steps s)) }
 {
     let mut k = 0;
     while let Some((action, target)) = source.step(s, k) {
@@ -118,7 +118,7 @@ fn push_row<const N: usize, S: Source<N>>(
     source: &S,
     s: usize,
 ) -> Result<(), AllocError>
-    ensures { OnOk result (string_bytes out.new ≡ string_bytes out.old ++ row_text form (meaning source.now) s) }
+    ensures { OnOk result (string_bytes out.new ≡ string_bytes out.old ++ row_text form (S.meaning source.now) s) }
 {
     let end = source.is_end(s);
     let silent = source.step_count(s) == 0;
@@ -131,7 +131,7 @@ fn push_row<const N: usize, S: Source<N>>(
 
 // How many transitions out of state s the Aldebaran form has.
 fn row_transitions<const N: usize, S: Source<N>>(source: &S, s: usize) -> usize
-    ensures { (result ≡ transitions_of (meaning source.now) s) × (result ≤ 4097) }
+    ensures { (result ≡ transitions_of (S.meaning source.now) s) × (result ≤ 4097) }
 {
     let steps = source.step_count(s);
     if source.is_end(s) { steps + 1 } else { steps }
@@ -139,7 +139,7 @@ fn row_transitions<const N: usize, S: Source<N>>(source: &S, s: usize) -> usize
 
 // How many transitions the Aldebaran form has.
 fn transition_count<const N: usize, S: Source<N>>(source: &S) -> usize
-    ensures { result ≡ transitions (meaning source.now) }
+    ensures { result ≡ transitions (S.meaning source.now) }
 {
     let mut total = 0;
     for s in 0..source.states() {
@@ -154,7 +154,7 @@ pub fn draw<const N: usize, S: Source<N>>(
     form: Form,
     source: &S,
 ) -> Result<String, AllocError>
-    ensures { IfOk result (λ t. string_bytes t ≡ drawing form (meaning source.now)) }
+    ensures { IfOk result (λ t. string_bytes t ≡ drawing form (S.meaning source.now)) }
 {
     let mut out = head(heap, form, transition_count(source), source.states())?;
     for s in 0..source.states() {

@@ -1,4 +1,7 @@
 // Tells how two procedures compare.
+
+#![tactic(auto)]
+
 use explanations::explain;
 use lines::{split_at_byte, split_line};
 use programs::{Answers, fetch};

@@ -35,9 +35,9 @@ fn push_difference<const N: usize, S: Source<N>>(
     requires well { Wellformed lines.now }
     requires few { length lines.now ≤ 1024 }
     requires inside { line < length lines.now }
-    requires room { length lines.now * (meaning source.now).count ≤ 130688 }
-    requires holds { Holds (meaning source.now) 0 (formula lines.now line) }
-    ensures { OnOk result (((steps : List (ℕ × ℕ)) × Way (meaning source.now) 0 (formula lines.now line) steps × (string_bytes out.new ≡ string_bytes out.old ++ difference_text left.entry lines.now line depth steps))) }
+    requires room { length lines.now * (S.meaning source.now).count ≤ 130688 }
+    requires holds { Holds (S.meaning source.now) 0 (formula lines.now line) }
+    ensures { OnOk result (((steps : List (ℕ × ℕ)) × Way (S.meaning source.now) 0 (formula lines.now line) steps × (string_bytes out.new ≡ string_bytes out.old ++ difference_text left.entry lines.now line depth steps))) }
 {
     push_lines(out, heap, lines)?;
     let told = sentence(heap, line, depth)?;
@@ -57,8 +57,8 @@ pub fn push_outcome<const N: usize, S: Source<N>>(
     verdict: Verdict,
     lines: &[Line],
 ) -> Result<(), AllocError>
-    requires { Tellable (meaning source.now) verdict lines.now }
-    ensures { OnOk result (((steps : List (ℕ × ℕ)) × Followed (meaning source.now) verdict lines.now steps × (string_bytes out.new ≡ string_bytes out.old ++ outcome_text left.entry verdict lines.now steps))) }
+    requires { Tellable (S.meaning source.now) verdict lines.now }
+    ensures { OnOk result (((steps : List (ℕ × ℕ)) × Followed (S.meaning source.now) verdict lines.now steps × (string_bytes out.new ≡ string_bytes out.old ++ outcome_text left.entry verdict lines.now steps))) }
 {
     match verdict {
         Verdict::Same => Ok(()),

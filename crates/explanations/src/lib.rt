@@ -1,4 +1,7 @@
 // Two procedures compared, and the answer told to the author of a rejected version.
+
+#![tactic(auto)]
+
 mod difference;
 mod explanation;
 mod formula;

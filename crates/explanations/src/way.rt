@@ -41,8 +41,8 @@ fn first_step<const N: usize, S: Source<N>>(
     action: u8,
     row: &[u8],
 ) -> Option<u8>
-    requires { (meaning source.now).count ≤ length row.now }
-    ensures { FirstMarked ((meaning source.now).steps s) action row.now result }
+    requires { (S.meaning source.now).count ≤ length row.now }
+    ensures { FirstMarked ((S.meaning source.now).steps s) action row.now result }
 {
     for k in 0..source.step_count(s) {
         if let Some((a, t)) = source.step(s, k) {
@@ -62,10 +62,10 @@ fn follow<const N: usize, S: Source<N>>(
     work: &[u8],
     i: usize,
 ) -> Result<Vec<(u8, u8)>, AllocError>
-    requires marked { Marked (meaning source.now) lines.now work.now }
+    requires marked { Marked (S.meaning source.now) lines.now work.now }
     requires inside { i < length lines.now }
-    requires holds { Holds (meaning source.now) 0 (formula lines.now i) }
-    ensures { IfOk result (λ steps. Way (meaning source.now) 0 (formula lines.now i) steps.items) }
+    requires holds { Holds (S.meaning source.now) 0 (formula lines.now i) }
+    ensures { IfOk result (λ steps. Way (S.meaning source.now) 0 (formula lines.now i) steps.items) }
 {
     let n = source.states();
     let mut steps = Vec::new(heap);
@@ -93,9 +93,9 @@ pub fn way<const N: usize, S: Source<N>>(
     requires well { Wellformed lines.now }
     requires few { length lines.now ≤ 1024 }
     requires inside { i < length lines.now }
-    requires room { length lines.now * (meaning source.now).count ≤ 130688 }
-    requires holds { Holds (meaning source.now) 0 (formula lines.now i) }
-    ensures { IfOk result (λ steps. Way (meaning source.now) 0 (formula lines.now i) steps.items) }
+    requires room { length lines.now * (S.meaning source.now).count ≤ 130688 }
+    requires holds { Holds (S.meaning source.now) 0 (formula lines.now i) }
+    ensures { IfOk result (λ steps. Way (S.meaning source.now) 0 (formula lines.now i) steps.items) }
 {
     let mut work = [0; MOST_MARKS];
     let Ok(_) = evaluate(source, lines, i, 0, &mut work) else {

@@ -47,7 +47,7 @@ pub(crate) fn refused<const N: usize, S: Source<N>>(
     s: usize,
     room: usize,
 ) -> Option<EvaluationFault>
-    ensures { result ≡ first_fault lines.now i s (meaning source.now).count room }
+    ensures { result ≡ first_fault lines.now i s (S.meaning source.now).count room }
 {
     let n = source.states();
     if lines.is_empty() || lines.len() > MOST_LINES {

@@ -11,8 +11,8 @@ use lts::Source;
 
 // Whether some step of state s by the action leads to a state that the row marks.
 fn steps_into<const N: usize, S: Source<N>>(source: &S, s: usize, action: u8, row: &[u8]) -> bool
-    requires { (meaning source.now).count ≤ length row.now }
-    ensures { Decides result (Enters ((meaning source.now).steps s) action row.now) }
+    requires { (S.meaning source.now).count ≤ length row.now }
+    ensures { Decides result (Enters ((S.meaning source.now).steps s) action row.now) }
 {
     for k in 0..source.step_count(s) {
         if let Some((a, t)) = source.step(s, k) {
@@ -32,9 +32,9 @@ fn holds<const N: usize, S: Source<N>>(
     s: usize,
     work: &[u8],
 ) -> bool
-    requires ready { Ready (meaning source.now) lines.now k work.now }
-    requires state { s < (meaning source.now).count }
-    ensures { Decides result (Holds (meaning source.now) s (formula lines.now k)) }
+    requires ready { Ready (S.meaning source.now) lines.now k work.now }
+    requires state { s < (S.meaning source.now).count }
+    ensures { Decides result (Holds (S.meaning source.now) s (formula lines.now k)) }
 {
     let n = source.states();
     match lines[k] {
@@ -49,9 +49,9 @@ fn holds<const N: usize, S: Source<N>>(
 
 // Marks line k at every state, where the lines before it are marked.
 fn mark_line<const N: usize, S: Source<N>>(source: &S, lines: &[Line], k: usize, work: &mut [u8])
-    requires { Ready (meaning source.now) lines.now k work.old }
-    ensures marked { RowsMarked (meaning source.now) lines.now (k + 1) work.new }
-    ensures kept { drop (length lines.now * (meaning source.now).count) work.new ≡ drop (length lines.now * (meaning source.now).count) work.old }
+    requires { Ready (S.meaning source.now) lines.now k work.old }
+    ensures marked { RowsMarked (S.meaning source.now) lines.now (k + 1) work.new }
+    ensures kept { drop (length lines.now * (S.meaning source.now).count) work.new ≡ drop (length lines.now * (S.meaning source.now).count) work.old }
 {
     let n = source.states();
     for s in 0..n {
@@ -67,7 +67,7 @@ pub fn evaluate<const N: usize, S: Source<N>>(
     state: usize,
     work: &mut [u8],
 ) -> Result<bool, EvaluationFault>
-    ensures { Evaluated (meaning source.now) lines.now line state work.old result work.new }
+    ensures { Evaluated (S.meaning source.now) lines.now line state work.old result work.new }
 {
     if let Some(fault) = refused(source, lines, line, state, work.len()) {
         return Err(fault);

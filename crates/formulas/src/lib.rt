@@ -1,4 +1,7 @@
 // Formulas as lists of lines, and their evaluation over a source.
+
+#![tactic(auto)]
+
 mod admission;
 pub mod evaluation;
 pub mod fault;

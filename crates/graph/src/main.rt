@@ -1,4 +1,7 @@
 // Prints the graph of each procedure that is named: as a table, as a Graphviz digraph, or in the Aldebaran form.
+
+#![tactic(auto)]
+
 use drawings::{Form, draw_input};
 use lines::split_line;
 use programs::{Answers, fetch};

@@ -1,4 +1,7 @@
 // What a procedure is given as, a term's text or a table file, and how it is read.
+
+#![tactic(auto)]
+
 pub mod fault;
 pub mod input;
 pub mod parsed;

@@ -1,4 +1,7 @@
 // Texts of many lines, and lines of parts.
+
+#![tactic(auto)]
+
 ghost use Rattle.std.specs.Prelude.{◌≡◌, ◌<◌, length};
 ghost use Rattle.lines.specs.Lines.{first_part, later_part, first_line, later_lines};
 

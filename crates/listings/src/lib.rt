@@ -1,4 +1,7 @@
 // Classes and formula lines listed as text, and where the actions of a term's text stand.
+
+#![tactic(auto)]
+
 pub mod classes;
 pub mod lines;
 pub mod offsets;

@@ -8,7 +8,7 @@ use crate::source::Source;
 
 // The number of steps that a source lists in all.
 fn step_total<const N: usize, S: Source<N>>(source: &S) -> usize
-    ensures { result ≡ total (meaning source.now) }
+    ensures { result ≡ total (S.meaning source.now) }
 {
     let mut all = 0;
     for s in 0..source.states() {
@@ -19,7 +19,7 @@ fn step_total<const N: usize, S: Source<N>>(source: &S) -> usize
 
 // The states and ends of a source, with no steps.
 fn bare<const N: usize, S: Source<N>>(source: &S) -> Procedure
-    ensures { Filled (meaning source.now) 0 0 result }
+    ensures { Filled (S.meaning source.now) 0 0 result }
 {
     let mut ends = [false; 128];
     for s in 0..S::MOST.states {
@@ -35,10 +35,10 @@ fn bare<const N: usize, S: Source<N>>(source: &S) -> Procedure
 
 // Puts the steps of state s behind those of the states below it.
 fn copy_steps<const N: usize, S: Source<N>>(source: &S, s: usize, to: &mut Procedure)
-    requires state { s < (meaning source.now).count }
-    requires room { total (meaning source.now) ≤ 512 }
-    requires filled { Filled (meaning source.now) s 0 to.old }
-    ensures { Filled (meaning source.now) (s + 1) 0 to.new }
+    requires state { s < (S.meaning source.now).count }
+    requires room { total (S.meaning source.now) ≤ 512 }
+    requires filled { Filled (S.meaning source.now) s 0 to.old }
+    ensures { Filled (S.meaning source.now) (s + 1) 0 to.new }
 {
     let from = to.first[s] as usize;
     let count = source.step_count(s);
@@ -52,7 +52,7 @@ fn copy_steps<const N: usize, S: Source<N>>(source: &S, s: usize, to: &mut Proce
 
 // A procedure with the meaning of the source, unless it lists more than 512 steps.
 pub fn copied<const N: usize, S: Source<N>>(source: &S) -> Option<Procedure>
-    ensures { Copied (meaning source.now) result }
+    ensures { Copied (S.meaning source.now) result }
 {
     if step_total(source) > 512 {
         return None;

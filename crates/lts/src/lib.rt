@@ -1,4 +1,7 @@
 // Procedures as finite labelled transition systems, and the sources that answer for them.
+
+#![tactic(auto)]
+
 pub mod action_map;
 pub mod copying;
 pub mod joined;

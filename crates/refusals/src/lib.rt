@@ -1,5 +1,8 @@
 // What every refusal of the product tells: its number, the layer that refused, and its place
 // where it has one.
+
+#![tactic(auto)]
+
 ghost use Rattle.std.specs.Prelude.{◌≡◌, Some};
 ghost use Rattle.refusals.specs.Texts.{layer_text, refusal_text};
 ghost use Rattle.refusals.specs.declared.Refusal.{Refusal};

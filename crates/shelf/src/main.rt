@@ -1,4 +1,7 @@
 // The console: reads lines from standard input, and prints what each is answered.
+
+#![tactic(auto)]
+
 use commands::{Output, admit};
 use console::Console;
 use lines::split_line;

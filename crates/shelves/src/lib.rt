@@ -1,4 +1,7 @@
 // The shelf: procedures filed, submitted, claimed and released.
+
+#![tactic(auto)]
+
 pub mod call;
 pub mod clearance;
 pub mod fault;

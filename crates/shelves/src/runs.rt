@@ -66,7 +66,7 @@ impl Shelf {
         lines: usize,
         classes: usize,
     ) -> Outcome
-        ensures { Performed (account_of self.old) (submit slot (meaning source.now) (min lines 1021) (min classes 256)) result (account_of self.new) }
+        ensures { Performed (account_of self.old) (submit slot (S.meaning source.now) (min lines 1021) (min classes 256)) result (account_of self.new) }
     {
         let mut line_places = [Line::True; MOST_LINES];
         let mut class_places = [0; MOST_CLASSES];

@@ -103,7 +103,7 @@ pub draft_means : (h : Rec) (rs : List Rec) (d : Draft) → Draws h rs d → dra
 draft_means h rs d w = same_meaning (drafted d) (table_meaning (h ∷ rs)) w.states same_ends (λ s. ap (out_of s) w.steps)
   where
     same_ends : (s : ℕ) → (ltb s d.states && get_or d.ends s false) ≡ ended s (h ∷ rs)
-    same_ends s = ⊎_elim (λ l. rw (lt-ltb s d.states l) (w.ends s l)) (λ l. rw (le-ltb s d.states l) (sym (w.no-ends s l))) (cases_lt s d.states)
+    same_ends s = ⊎_elim (λ l. rw (lt-ltb s d.states l) (w.ends s l)) (λ l. rw (le-ltb s d.states l) (sym (w.no_ends s l))) (cases_lt s d.states)
 
 -- what reading a file promises of its answer
 abbrev pub Promised : List ℕ → Result Table TableFault → Type 0

@@ -71,7 +71,7 @@ module _ (h : Rec) (rs : List Rec) (d : Draft) (x : Rec) (w : Draws h rs d) (e :
   same_ends s l = w.ends s l ∙ sym (unnamed s)
 
   same_no_ends : (s : ℕ) → d.states ≤ s → ended s (h ∷ (rs ++ x ∷ [])) ≡ false
-  same_no_ends s l = unnamed s ∙ w.no-ends s l
+  same_no_ends s l = unnamed s ∙ w.no_ends s l
 
 abbrev pub remarked : ℕ → List ℕ → Rec
 remarked at body = record { place = at; kind = remark; body = body }
@@ -106,7 +106,7 @@ module _ (at : ℕ) (body : List ℕ) (d : Draft) (one : length body ≡ 1) (bel
         rw (ne_eqb s (byte body 0) n) (get_or-set_other d.ends (byte body 0) s true false n ∙ (w.ends s l ∙ sym (or_last (ended s (h ∷ rs)))))
 
     unmarked : (s : ℕ) → d.states ≤ s → (ended s (h ∷ rs) || eqb s (byte body 0)) ≡ false
-    unmarked s l = rw (w.no-ends s l, ne_eqb s (byte body 0) (λ e. omega arith))
+    unmarked s l = rw (w.no_ends s l, ne_eqb s (byte body 0) (λ e. omega arith))
 
     pub take_end : (fault (h ∷ rs) (ender at body) ≡ None) × Draws h (rs ++ (ender at body) ∷ []) (with_end d (byte body 0))
     take_end =

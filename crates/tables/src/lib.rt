@@ -1,4 +1,7 @@
 // Table files: records of a length, a kind and a body; and the procedure that they draw.
+
+#![tactic(auto)]
+
 mod draft;
 pub mod fault;
 pub mod laws;

@@ -1,4 +1,7 @@
 // Process terms: how a text is read, and the graph that the rules of the calculus give it.
+
+#![tactic(auto)]
+
 pub mod fault;
 pub mod letter;
 mod listing;

@@ -1,5 +1,7 @@
 // Tests of the libraries together.
 
+#![tactic(auto)]
+
 #[cfg(test)]
 mod compared;
 #[cfg(test)]

@@ -46,9 +46,9 @@ impl Reach {
 
     // Holds just the pairs that state t reaches, and answers their number.
     pub fn mark<S: System>(&mut self, system: &S, class: &[u16; 256], t: usize) -> usize
-        requires { (u : ℕ) → u < (meaning system.now).count → slice_index class.now u < 256 }
-        ensures reached { Reached (numbers class.now) ((meaning system.now).steps t) self.new }
-        ensures weighed { result ≡ weight (numbers class.now) ((meaning system.now).steps t) }
+        requires { (u : ℕ) → u < (S.meaning system.now).count → slice_index class.now u < 256 }
+        ensures reached { Reached (numbers class.now) ((S.meaning system.now).steps t) self.new }
+        ensures weighed { result ≡ weight (numbers class.now) ((S.meaning system.now).steps t) }
     {
         self.clear();
         let mut pairs = 0;
@@ -64,8 +64,8 @@ impl Reach {
 
     // The first pair that state t reaches and that is not held.
     pub fn missing<S: System>(&self, system: &S, class: &[u16; 256], t: usize) -> Option<(u8, u16)>
-        requires { (u : ℕ) → u < (meaning system.now).count → slice_index class.now u < 256 }
-        ensures { Missing (numbers class.now) ((meaning system.now).steps t) self.now result }
+        requires { (u : ℕ) → u < (S.meaning system.now).count → slice_index class.now u < 256 }
+        ensures { Missing (numbers class.now) ((S.meaning system.now).steps t) self.now result }
     {
         for k in 0..system.step_count(t) {
             if let Some((action, target)) = system.step(t, k) {

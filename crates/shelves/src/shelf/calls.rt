@@ -22,7 +22,7 @@ fn weigh<const N: usize, S: Source<N>>(
     classes: &mut [u16],
 ) -> Result<Report, ShelfFault>
     requires { Sound force.now }
-    ensures { Weighing (stored force.now) (meaning source.now) lines.old classes.old result lines.new classes.new }
+    ensures { Weighing (stored force.now) (S.meaning source.now) lines.old classes.old result lines.new classes.new }
 {
     let view = Stored { of: force };
     Ok(compare(&view, source, lines, classes)?)
@@ -46,7 +46,7 @@ impl Shelf {
         slot: usize,
         source: &S,
     ) -> Result<Row, ShelfFault>
-        ensures { Filing (account_of self.now) slot (meaning source.now) result }
+        ensures { Filing (account_of self.now) slot (S.meaning source.now) result }
     {
         if slot > 7 {
             return Err(ShelfFault::Slot);
@@ -71,7 +71,7 @@ impl Shelf {
         slot: usize,
         source: &S,
     ) -> Result<(), ShelfFault>
-        ensures { Moved (account_of self.old) (file slot (meaning source.now)) (answer result) (account_of self.new) }
+        ensures { Moved (account_of self.old) (file slot (S.meaning source.now)) (answer result) (account_of self.new) }
     {
         let row = self.filing(slot, source)?;
         self.slots.put(slot, row);
@@ -84,7 +84,7 @@ impl Shelf {
         slot: usize,
         source: &S,
     ) -> Result<(Row, Procedure), ShelfFault>
-        ensures { Admitted (account_of self.now) self.now.slots.rows slot (meaning source.now) result }
+        ensures { Admitted (account_of self.now) self.now.slots.rows slot (S.meaning source.now) result }
     {
         if slot > 7 {
             return Err(ShelfFault::Slot);
@@ -109,8 +109,8 @@ impl Shelf {
         lines: &mut [Line],
         classes: &mut [u16],
     ) -> Result<Report, ShelfFault>
-        ensures moved { Moved (account_of self.old) (submit slot (meaning source.now) (length lines.old) (length classes.old)) (submit_answer result lines.new) (account_of self.new) }
-        ensures submitted { Submitted (account_of self.old) slot (meaning source.now) lines.old classes.old result lines.new classes.new }
+        ensures moved { Moved (account_of self.old) (submit slot (S.meaning source.now) (length lines.old) (length classes.old)) (submit_answer result lines.new) (account_of self.new) }
+        ensures submitted { Submitted (account_of self.old) slot (S.meaning source.now) lines.old classes.old result lines.new classes.new }
     {
         let (row, procedure) = self.admitted(slot, source)?;
         let report = weigh(&row.force, source, lines, classes)?;

@@ -8,4 +8,4 @@ returns-in-Apart c =
     let script = c.args.script.now in
     let size = script.size in
     let room = script.room in
-    record { verdict = ap told (sym c.in-Apart.is); lines = left_apart c.args.starts c.in-Apart.line c.in-Apart.depth script.used script.lines c.args.lines.now c.put-front.new.to (omega arith) c.in-Apart.is c.requires c.put-front.ensures }
+    record { verdict = ap told (sym c.in-Apart.is); lines = left_apart c.args.starts c.in-Apart.line c.in-Apart.depth script.used script.lines c.args.lines.now c.put_front.new.to (omega arith) c.in-Apart.is c.requires c.put_front.ensures }

@@ -24,8 +24,8 @@ judged-verdict-requires g c =
     let class_room : p.count + q.count ≤ length c.args.classes.now = omega arith in
     fits_lines p q law_p law_q g.L.Source.bounded g.R.Source.bounded c.states-start.result c.states-start.ensures (written c.compared-found.new.script) c.compared-found.result c.compared-found.ensures c.args.lines.now c.args.classes.now line_room class_room
 
-pub overflow-cast-result : goal.overflow-cast-result
-overflow-cast-result g c =
+pub overflow_cast-result : goal.overflow_cast-result
+overflow_cast-result g c =
     let p = g.L.Source.meaning c.args.system.now.left.now in
     let q = g.R.Source.meaning c.args.system.now.right.now in
     let law_p = g.L.Source.lawful c.args.system.now.left.now in
@@ -33,8 +33,8 @@ overflow-cast-result g c =
     let low = (counts_low p q law_p law_q g.L.Source.bounded g.R.Source.bounded c.states-start.result c.states-start.ensures (written c.compared-found.new.script) c.compared-found.result c.compared-found.ensures).0 in
     search rules
 
-pub overflow-cast-result-2 : goal.overflow-cast-result-2
-overflow-cast-result-2 g c =
+pub overflow_cast-result-2 : goal.overflow_cast-result-2
+overflow_cast-result-2 g c =
     let p = g.L.Source.meaning c.args.system.now.left.now in
     let q = g.R.Source.meaning c.args.system.now.right.now in
     let law_p = g.L.Source.lawful c.args.system.now.left.now in
@@ -53,4 +53,4 @@ returns g c =
     let classes_left = c.if-classes-n.false in
     let line_room : 4 * (p.count + q.count) - 3 ≤ length c.args.lines.now = omega arith in
     let class_room : p.count + q.count ≤ length c.args.classes.now = omega arith in
-    reported_as p q law_p law_q g.L.Source.bounded g.R.Source.bounded c.states-start.result c.states-start.ensures (written c.compared-found.new.script) c.compared-found.result c.compared-found.ensures c.args.lines.now c.args.classes.now line_room class_room c.states-n.result c.judged-verdict.result c.judged-verdict.new.lines c.put-front.new.to n c.judged-verdict.ensures.verdict c.judged-verdict.ensures.lines c.put-front.ensures
+    reported_as p q law_p law_q g.L.Source.bounded g.R.Source.bounded c.states-start.result c.states-start.ensures (written c.compared-found.new.script) c.compared-found.result c.compared-found.ensures c.args.lines.now c.args.classes.now line_room class_room c.states-n.result c.judged-verdict.result c.judged-verdict.new.lines c.put_front.new.to n c.judged-verdict.ensures.verdict c.judged-verdict.ensures.lines c.put_front.ensures

@@ -4,7 +4,7 @@ use Rattle.comparison.specs.Layouts.{run, SameListed}
 use Rattle.comparison.proofs.Laying.{lay_new, lay_old, close_state}
 use Rattle.comparison.proofs.Pairs.{take_whole}
 use Rattle.comparison.proofs.layout.lay_state.Goals as goal
-use Rattle.comparison.proofs.layout.lay_state.Goals.{in-Some+then-put+else-to-eq-PLACES, in-Some+else-put, in-default}
+use Rattle.comparison.proofs.layout.lay_state.Goals.{in-Some+then-put+else-to-eq-PLACES, in-Some+else-put, in_default}
 
 pub put-requires : goal.put-requires
 put-requires g c =
@@ -37,9 +37,9 @@ loop-k-preserved g c =
           let at = w.in-Some.ensures in
           let low = listed_target m law s k a t at in
           rw (w.to-is, w.seen-is) (lay_old m s i k a t c.loop-k.seen w.put.new.self c.loop-k.to inv at (listed_action m law s k a t at) (omega arith) w.if-put.ensures)
-      | in-default w ↦
-          let past = nth_missing (m.steps s) k w.in-default.ensures in
-          let b : ⊥ = omega (arith, c.step-count-k-end.ensures) in
+      | in_default w ↦
+          let past = nth_missing (m.steps s) k w.in_default.ensures in
+          let b : ⊥ = omega (arith, c.step_count-k-end.ensures) in
           absurd b
     ]
 
@@ -52,6 +52,6 @@ returns g c =
     let i = c.args.to.now.used in
     let p = c.loop-k.to in
     let inv = c.loop-k.invariant in
-    let all : length (m.steps c.args.s) ≤ c.loop-k.k = omega (arith, c.step-count-k-end.ensures) in
+    let all : length (m.steps c.args.s) ≤ c.loop-k.k = omega (arith, c.step_count-k-end.ensures) in
     let last = subst (λ (ys : List (ℕ × ℕ)). SameListed ys (run p i (p.used - i))) (take_whole (m.steps c.args.s) c.loop-k.k all) inv.steps in
-    λ _. close_state m c.args.s i p c.is-end.result (omega arith) inv.begun c.is-end.ensures inv.below last
+    λ _. close_state m c.args.s i p c.is_end.result (omega arith) inv.begun c.is_end.ensures inv.below last

@@ -4,27 +4,27 @@ use Rattle.comparison.specs.Marks.{written}
 use Rattle.comparison.proofs.Transfer.{compares_same, laid_same, laid_room, laid_acts, laid_aims}
 use Rattle.comparison.proofs.outcome.compared.Goals as goal
 
-pub invariant-of-flat : goal.invariant-of-flat
-invariant-of-flat g c =
+pub invariant_of-flat : goal.invariant_of-flat
+invariant_of-flat g c =
     let m = g.S.System.meaning c.args.system.now in
     let law = g.S.System.lawful c.args.system.now in
-    let p = c.lay-out.new.to in
-    let h = c.lay-out.ensures c.if-lay-out.true in
+    let p = c.lay_out.new.to in
+    let h = c.lay_out.ensures c.if-lay_out.true in
     let n = h.states in
     let some = law.some in
     let few = law.few in
     (omega arith, (omega arith, (laid_room m law p h, (laid_acts m law p h, (laid_aims m law p h, tt)))))
 
-pub refine-all-requires : goal.refine-all-requires
-refine-all-requires g c =
-    let h = c.lay-out.ensures c.if-lay-out.true in
+pub refine_all-requires : goal.refine_all-requires
+refine_all-requires g c =
+    let h = c.lay_out.ensures c.if-lay_out.true in
     let n = h.states in
     record { few = omega (arith, c.requires.few); inside = omega (arith, c.requires.inside); empty = c.requires.empty }
 
-pub returns-then-lay-out : goal.returns-then-lay-out
-returns-then-lay-out g c =
+pub returns-then-lay_out : goal.returns-then-lay_out
+returns-then-lay_out g c =
     let m = g.S.System.meaning c.args.system.now in
     let law = g.S.System.lawful c.args.system.now in
-    let p = c.lay-out.new.to in
-    let h = c.lay-out.ensures c.if-lay-out.true in
-    compares_same (laid p) m (laid_same m law p h) c.args.right (written c.refine-all.new.script) c.refine-all.result c.refine-all.ensures
+    let p = c.lay_out.new.to in
+    let h = c.lay_out.ensures c.if-lay_out.true in
+    compares_same (laid p) m (laid_same m law p h) c.args.right (written c.refine_all.new.script) c.refine_all.result c.refine_all.ensures

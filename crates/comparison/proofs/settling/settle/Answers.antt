@@ -19,7 +19,7 @@ pub sent-d-requires : goal.sent-d-requires
 sent-d-requires g c =
     let w = c.requires.working in
     let few = classes_few (g.S.System.meaning c.args.system.now) (g.S.System.lawful c.args.system.now) (omega arith) c.args.k c.args.s c.args.old.now (written c.args.script.now) c.args.draft.now w c.requires.state in
-    record { linked = c.requires.linked; size = w.splits-size; room = let e = w.counted in omega arith; low = classes_low (g.S.System.meaning c.args.system.now) (g.S.System.lawful c.args.system.now) (omega arith) c.args.k c.args.s c.args.old.now (written c.args.script.now) c.args.draft.now w c.requires.state c.args.s c.requires.state; drawn = w.drawn }
+    record { linked = c.requires.linked; size = w.splits_size; room = let e = w.counted in omega arith; low = classes_low (g.S.System.meaning c.args.system.now) (g.S.System.lawful c.args.system.now) (omega arith) c.args.k c.args.s c.args.old.now (written c.args.script.now) c.args.draft.now w c.requires.state c.args.s c.requires.state; drawn = w.drawn }
 
 pub leader-requires : goal.leader-requires
 leader-requires g c =
@@ -31,16 +31,16 @@ lead-requires g c =
     let low = lands_low (g.S.System.meaning c.args.system.now) (g.S.System.lawful c.args.system.now) (omega arith) c.args.k c.args.s c.args.old.now (written c.args.script.now) c.args.draft.now w c.requires.state c.mark-pairs.new.self c.mark-pairs.ensures.reached c.sent-d.result c.sent-d.ensures in
     let few = (g.S.System.lawful c.args.system.now).few in
     let state = c.requires.state in
-    let a = w.class-size in
-    let b = w.leaders-size in
+    let a = w.class_size in
+    let b = w.leaders_size in
     record { state = omega arith; number = omega arith; class = omega arith }
 
-pub returns-in-default : goal.returns-in-default
-returns-in-default g c =
+pub returns-in_default : goal.returns-in_default
+returns-in_default g c =
     let m = g.S.System.meaning c.args.system.now in
     let law = g.S.System.lawful c.args.system.now in
     let is = lands_at m law (omega arith) c.args.k c.args.s c.args.old.now (written c.args.script.now) c.args.draft.now c.requires.working c.requires.state c.mark-pairs.new.self c.mark-pairs.ensures.reached c.sent-d.result c.sent-d.ensures in
-    let works = lead_works m c.args.k c.args.s c.args.old.now (written c.args.script.now) c.args.draft.now c.requires.working c.requires.state law.few c.sent-d.result is (λ l e. let f = c.in-default.ensures in let z : ◌≡◌ {A = ℕ} 0 1 = cc in let b : ⊥ = omega arith in absurd b) in
+    let works = lead_works m c.args.k c.args.s c.args.old.now (written c.args.script.now) c.args.draft.now c.requires.working c.requires.state law.few c.sent-d.result is (λ l e. let f = c.in_default.ensures in let z : ◌≡◌ {A = ℕ} 0 1 = cc in let b : ⊥ = omega arith in absurd b) in
     record {
       working = subst (Working m c.args.k (c.args.s + 1) c.args.old.now (written c.args.script.now)) (sym c.lead.ensures) works;
       linked = subst (λ (x : Draft). Linked c.args.old.now.count x.splits x.made c.args.links.now) (sym c.lead.ensures) c.requires.linked;
@@ -66,8 +66,8 @@ bounds-weights-leader g c =
     let led = (c.requires.working.leads c.sent-d.result c.in-Some.leader (sym c.in-Some.ensures)).0 in
     omega arith
 
-pub overflow-cast-weights : goal.overflow-cast-weights
-overflow-cast-weights g c =
+pub overflow_cast-weights : goal.overflow_cast-weights
+overflow_cast-weights g c =
     let few = weight_few (numbers c.args.old.now.class) ((g.S.System.meaning c.args.system.now).steps c.args.s) in
     let is = c.mark-pairs.ensures.weighed in
     search rules
@@ -78,8 +78,8 @@ follow-requires g c =
     let low = lands_low (g.S.System.meaning c.args.system.now) (g.S.System.lawful c.args.system.now) (omega arith) c.args.k c.args.s c.args.old.now (written c.args.script.now) c.args.draft.now w c.requires.state c.mark-pairs.new.self c.mark-pairs.ensures.reached c.sent-d.result c.sent-d.ensures in
     let few = (g.S.System.lawful c.args.system.now).few in
     let state = c.requires.state in
-    let a = w.class-size in
-    let b = w.leaders-size in
+    let a = w.class_size in
+    let b = w.leaders_size in
     record { state = omega arith; number = omega arith; class = omega arith }
 
 pub returns-in-None : goal.returns-in-None
@@ -116,7 +116,7 @@ add-requires g c =
     let fits = part_fits m law (omega arith) c.args.k c.args.s c.args.old.now (written c.args.script.now) c.args.draft.now w c.requires.state c.in-Some-contrast.split parting in
     let below = w.landing.below c.args.s c.requires.state in
     let counted = w.counted in
-    record { linked = c.requires.linked; size = w.splits-size; room = fits.made; low = low; born = omega arith }
+    record { linked = c.requires.linked; size = w.splits_size; room = fits.made; low = low; born = omega arith }
 
 pub returns-in-Some-contrast : goal.returns-in-Some-contrast
 returns-in-Some-contrast g c =

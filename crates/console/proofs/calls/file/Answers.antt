@@ -13,27 +13,27 @@ use Rattle.console.proofs.Outcomes.{unread_file, filed, unfiled}
 use Rattle.console.proofs.Places.{refusal_near}
 use Rattle.console.proofs.calls.file.Goals as goal
 
-pub returns-in-err-term : goal.returns-in-err-term
-returns-in-err-term c =
-    let p = err_from_is_err_and c.from-residual.result c.from-residual.ensures.1 in
-    let f = c.in-err-term.field-0.0 in
-    let e = sym c.in-err-term.ensures.refuses in
+pub returns-in_err-term : goal.returns-in_err-term
+returns-in_err-term c =
+    let p = err_from_is_err_and c.from_residual.result c.from_residual.ensures.1 in
+    let f = c.in_err-term.field-0.0 in
+    let e = sym c.in_err-term.ensures.refuses in
     rw (p.1, p.2) (record { did = unread_file (account_of c.args.shelf.now) c.args.map.now.entries c.args.text.now c.args.slot f e; short = term_short f (refusal_near c.args.text.now f e) })
 
-pub returns-in-err-file : goal.returns-in-err-file
-returns-in-err-file c =
-    let p = err_from_is_err_and c.from-residual-in-err-file.result c.from-residual-in-err-file.ensures.1 in
-    let f = c.in-err-file.field-0.0 in
+pub returns-in_err-file : goal.returns-in_err-file
+returns-in_err-file c =
+    let p = err_from_is_err_and c.from_residual-in_err-file.result c.from_residual-in_err-file.ensures.1 in
+    let f = c.in_err-file.field-0.0 in
     let map = c.args.map.now in
-    let term = c.in-ok-term.term in
-    let read = c.in-ok-term.ensures in
+    let term = c.in_ok-term.term in
+    let read = c.in_ok-term.ensures in
     let law = lawful_most 64 (mapped map.entries (graph (tree_of term))) (lit≤ tt) (mapped_lawful map.entries map.actions (graph (tree_of term)) (term_lawful term)) in
-    rw (p.1, p.2) (record { did = unfiled (account_of c.args.shelf.now) (account_of c.file.new.self) map.entries c.args.text.now c.args.slot (tree_of term) (sym read.refuses) read.spelled law f c.in-err-file.ensures.does; short = shelf_short f })
+    rw (p.1, p.2) (record { did = unfiled (account_of c.args.shelf.now) (account_of c.file.new.self) map.entries c.args.text.now c.args.slot (tree_of term) (sym read.refuses) read.spelled law f c.in_err-file.ensures.does; short = shelf_short f })
 
 pub returns : goal.returns
 returns c =
     let map = c.args.map.now in
-    let term = c.in-ok-term.term in
-    let read = c.in-ok-term.ensures in
+    let term = c.in_ok-term.term in
+    let read = c.in_ok-term.ensures in
     let law = lawful_most 64 (mapped map.entries (graph (tree_of term))) (lit≤ tt) (mapped_lawful map.entries map.actions (graph (tree_of term)) (term_lawful term)) in
-    record { did = filed (account_of c.args.shelf.now) (account_of c.file.new.self) map.entries c.args.text.now c.args.slot (tree_of term) (sym read.refuses) read.spelled law c.in-ok-file.ensures.does; short = lit≤ tt }
+    record { did = filed (account_of c.args.shelf.now) (account_of c.file.new.self) map.entries c.args.text.now c.args.slot (tree_of term) (sym read.refuses) read.spelled law c.in_ok-file.ensures.does; short = lit≤ tt }

@@ -5,8 +5,8 @@ use Rattle.embed.specs.Comparisons.{refused_by}
 use Rattle.embed.proofs.Lent.{count_within, room_within}
 use Rattle.embed.proofs.comparing.compare_into.Goals as goal
 
-pub write-verdict-requires : goal.write-verdict-requires
-write-verdict-requires c =
+pub write_verdict-requires : goal.write_verdict-requires
+write_verdict-requires c =
     let few = count_within (meaning_of c.args.left.now) (meaning_of c.args.right.now) c.args.own.now c.args.classes.now c.in-Ok.report c.compare.new.lines c.compare.new.classes c.in-Ok.ensures in
     let long = room_within c.args.numbers.now in
     let e = ap length c.requires in
@@ -19,7 +19,7 @@ returns-in-Err c =
       result = Err fault;
       lines = c.compare.new.lines;
       compared = subst (λ ls. Compared (meaning_of c.args.left.now) (meaning_of c.args.right.now) ls c.args.classes.now (Err fault) c.compare.new.lines c.compare.new.classes) c.requires c.in-Err.ensures;
-      answered = c.refused-by.ensures ∙ ap (refused_by 0) c.refusal.ensures;
+      answered = c.refused_by.ensures ∙ ap (refused_by 0) c.refusal.ensures;
       numbered = refl;
     }
 
@@ -31,5 +31,5 @@ returns-in-Ok c =
       lines = c.compare.new.lines;
       compared = subst (λ ls. Compared (meaning_of c.args.left.now) (meaning_of c.args.right.now) ls c.args.classes.now (Ok report) c.compare.new.lines c.compare.new.classes) c.requires c.in-Ok.ensures;
       answered = c.told.ensures;
-      numbered = c.write-verdict.ensures;
+      numbered = c.write_verdict.ensures;
     }

@@ -14,5 +14,5 @@ returns-then-count-gt-MOST-LINES c =
 pub returns : goal.returns
 returns c =
     let n = length c.args.numbers.now / 3 in
-    let lines : take (n - 0) c.read-lines.new.places ≡ lines_of c.args.numbers.now = ap (λ k. take k c.read-lines.new.places) (sub-zero n) ∙ c.read-lines.ensures in
+    let lines : take (n - 0) c.read_lines.new.places ≡ lines_of c.args.numbers.now = ap (λ k. take k c.read_lines.new.places) (sub-zero n) ∙ c.read_lines.ensures in
     record { result = c.evaluate.result; evaluated = subst (λ ls. Evaluated (meaning_of c.args.source.now) ls c.args.line c.args.state c.args.work.now c.evaluate.result c.evaluate.new.work) lines c.evaluate.ensures; answered = c.told-2.ensures }

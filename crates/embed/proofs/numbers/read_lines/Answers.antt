@@ -5,7 +5,7 @@ use Rattle.embed.proofs.Reading.{lines_length, read_more}
 use Rattle.embed.proofs.numbers.read_lines.Goals as goal
 
 pub loop-k-preserved : goal.loop-k-preserved
-loop-k-preserved c = read_more c.args.numbers.now c.loop-k.k c.loop-k.places c.line-of.result c.loop-k-test.true (omega arith) c.line-of.ensures c.loop-k.invariant
+loop-k-preserved c = read_more c.args.numbers.now c.loop-k.k c.loop-k.places c.line_of.result c.loop-k-test.true (omega arith) c.line_of.ensures c.loop-k.invariant
 
 pub returns : goal.returns
 returns c =

@@ -7,7 +7,7 @@ use Rattle.embed.proofs.numbers.write_lines.Goals as goal
 
 pub loop-k-preserved : goal.loop-k-preserved
 loop-k-preserved c =
-    let n = c.line-numbers-letter.ensures in
+    let n = c.line_numbers-letter.ensures in
     simp (n.letter, n.first, n.second) (write_more c.args.lines.now c.loop-k.k (get_or c.args.lines.now c.loop-k.k True) c.args.places.now c.loop-k.places c.loop-k-test.true (omega arith) refl c.loop-k.invariant)
 
 pub returns : goal.returns

@@ -18,10 +18,10 @@ loop-console-preserved c =
     let e = ap length c.bytes-bytes.ensures in
     let room = c.if-places-written-ge-ROOM.true in
     let fits : l.written + length bytes ≤ length c.args.places.now = omega arith in
-    typed_more c.args.input.now c.args.places.now l.rest.now c.split-line.result.0.now bytes c.split-line.result.1.now l.written x x' l.places c.put.new.places l.invariant some c.split-line.ensures.line c.split-line.ensures.later (subst (λ bs. Answered x c.split-line.result.0.now bs x') (sym c.bytes-bytes.ensures) c.answer-answer.ensures) fits c.put.ensures
+    typed_more c.args.input.now c.args.places.now l.rest.now c.split_line.result.0.now bytes c.split_line.result.1.now l.written x x' l.places c.put.new.places l.invariant some c.split_line.ensures.line c.split_line.ensures.later (subst (λ bs. Answered x c.split_line.result.0.now bs x') (sym c.bytes-bytes.ensures) c.answer-answer.ensures) fits c.put.ensures
 
-pub overflow-sub-result : goal.overflow-sub-result
-overflow-sub-result c = begins_shorter c.loop-console.invariant.begins
+pub overflow_sub-result : goal.overflow_sub-result
+overflow_sub-result c = begins_shorter c.loop-console.invariant.begins
 
 pub returns : goal.returns
 returns c =

@@ -6,13 +6,13 @@ use Rattle.explanations.proofs.Placing.{followed_placed}
 use Rattle.explanations.proofs.Telling.{reported_tellable}
 use Rattle.explanations.proofs.explanation.told.Goals as goal
 
-pub push-outcome-requires : goal.push-outcome-requires
-push-outcome-requires c =
+pub push_outcome-requires : goal.push_outcome-requires
+push_outcome-requires c =
     reported_tellable (meaning_of c.args.p.now) (meaning_of c.args.q.now) _ _ c.in-Ok.report c.compare.new.lines c.compare.new.classes (parsed_lawful c.args.p.now).few (parsed_lawful c.args.q.now).few c.compare.auto.lines c.in-Ok.ensures
 
 pub returns : goal.returns
 returns c =
-    let told = c.in-ok-push-outcome.ensures in
+    let told = c.in_ok-push_outcome.ensures in
     record {
       p = meaning_of c.args.p.now;
       q = meaning_of c.args.q.now;
@@ -25,5 +25,5 @@ returns c =
       steps = told.0;
       followed = told.1;
       placed = followed_placed c.args.left (meaning_of c.args.p.now) c.requires.left c.in-Ok.report.verdict c.compare.new.lines told.0 told.1;
-      text = told.2 ∙ ap (λ z. z ++ outcome_text c.args.left.word c.in-Ok.report.verdict c.compare.new.lines told.0) c.in-ok-out.ensures;
+      text = told.2 ∙ ap (λ z. z ++ outcome_text c.args.left.word c.in-Ok.report.verdict c.compare.new.lines told.0) c.in_ok-out.ensures;
     }

@@ -13,7 +13,7 @@ returns c =
     let first = procedure_text Left c.args.left.word p in
     let second = procedure_text Right c.args.right.word q in
     let e : c.states-n.result + c.states.result - 0 ≡ p.count + q.count = omega (arith, c.states-n.ensures, c.states.ensures) in
-    let one = c.in-ok-push-str.ensures.bytes ∙ (λ i. c.in-ok-out.ensures i ++ (c.as-str.ensures.value ∙ c.in-ok-other.ensures) i) in
-    let two = c.in-ok-push-str-2.ensures.bytes ∙ ap (λ z. string_bytes c.push-str.new.self ++ z) (c.as-str-2.ensures.value ∙ c.in-ok-verdict.ensures) in
-    let three = c.in-ok-push-classes.ensures ∙ (λ i. string_bytes c.push-str-2.new.self ++ classes_text (c.states-n.ensures i) (take (e i) c.args.classes.now) c.args.report.classes) in
-    three_pieces first (string_bytes c.push-str.new.self) (string_bytes c.push-str-2.new.self) (string_bytes c.push-classes.new.out) second (verdict_text c.args.report) (classes_text p.count (take (p.count + q.count) c.args.classes.now) c.args.report.classes) one two three
+    let one = c.in_ok-push_str.ensures.bytes ∙ (λ i. c.in_ok-out.ensures i ++ (c.as_str.ensures.value ∙ c.in_ok-other.ensures) i) in
+    let two = c.in_ok-push_str-2.ensures.bytes ∙ ap (λ z. string_bytes c.push_str.new.self ++ z) (c.as_str-2.ensures.value ∙ c.in_ok-verdict.ensures) in
+    let three = c.in_ok-push_classes.ensures ∙ (λ i. string_bytes c.push_str-2.new.self ++ classes_text (c.states-n.ensures i) (take (e i) c.args.classes.now) c.args.report.classes) in
+    three_pieces first (string_bytes c.push_str.new.self) (string_bytes c.push_str-2.new.self) (string_bytes c.push_classes.new.out) second (verdict_text c.args.report) (classes_text p.count (take (p.count + q.count) c.args.classes.now) c.args.report.classes) one two three

@@ -18,20 +18,20 @@ bounds-work-j g c =
     let i = names_both c.requires.ready c.states-n.ensures c.in-Both.is in
     place_inside c.requires.ready c.states-n.ensures c.in-Both.j c.args.s i.1 c.requires.state
 
-pub slice-bounds-steps-into-count : goal.slice-bounds-steps-into-count
-slice-bounds-steps-into-count g c =
+pub slice_bounds-steps_into-count : goal.slice_bounds-steps_into-count
+slice_bounds-steps_into-count g c =
     let i = names_step c.requires.ready c.states-n.ensures c.in-Step.is in
     let r = row_inside c.requires.ready c.states-n.ensures c.in-Step.i i in
     omega arith
 
-pub slice-bounds-steps-into-start : goal.slice-bounds-steps-into-start
-slice-bounds-steps-into-start g c =
+pub slice_bounds-steps_into-start : goal.slice_bounds-steps_into-start
+slice_bounds-steps_into-start g c =
     let i = names_step c.requires.ready c.states-n.ensures c.in-Step.is in
     let r = row_inside c.requires.ready c.states-n.ensures c.in-Step.i i in
     search rules
 
-pub steps-into-requires : goal.steps-into-requires
-steps-into-requires g c =
+pub steps_into-requires : goal.steps_into-requires
+steps_into-requires g c =
     let i = names_step c.requires.ready c.states-n.ensures c.in-Step.is in
     let r = row_inside c.requires.ready c.states-n.ensures c.in-Step.i i in
     let e = c.states-n.ensures in
@@ -44,7 +44,7 @@ returns-in-True g c =
 
 pub returns-in-End : goal.returns-in-End
 returns-in-End g c =
-    holds_end c.requires.ready c.states-n.ensures c.in-End.is c.args.s c.is-end.result c.is-end.ensures
+    holds_end c.requires.ready c.states-n.ensures c.in-End.is c.args.s c.is_end.result c.is_end.ensures
 
 pub returns-in-Not : goal.returns-in-Not
 returns-in-Not g c =
@@ -60,4 +60,4 @@ returns-else-work-i-eq1 g c =
 
 pub returns-in-Step : goal.returns-in-Step
 returns-in-Step g c =
-    holds_step c.requires.ready c.states-n.ensures c.in-Step.is (g.S.Source.lawful c.args.source.now) c.args.s c.steps-into.result c.steps-into.ensures
+    holds_step c.requires.ready c.states-n.ensures c.in-Step.is (g.S.Source.lawful c.args.source.now) c.args.s c.steps_into.result c.steps_into.ensures

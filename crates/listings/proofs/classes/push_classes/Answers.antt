@@ -6,4 +6,4 @@ use Rattle.listings.proofs.classes.push_classes.Goals as goal
 pub loop-c-preserved : goal.loop-c-preserved
 loop-c-preserved c =
     let text = class_text c.args.n c.args.classes.now in
-    texts_more text c.loop-c.c (string_bytes c.args.out.now) (string_bytes c.loop-c.out) (text c.loop-c.c) (string_bytes c.push-class.new.out) c.loop-c.invariant refl c.in-ok-push-class.ensures
+    texts_more text c.loop-c.c (string_bytes c.args.out.now) (string_bytes c.loop-c.out) (text c.loop-c.c) (string_bytes c.push_class.new.out) c.loop-c.invariant refl c.in_ok-push_class.ensures

@@ -5,4 +5,4 @@ use Rattle.listings.proofs.lines.push_lines.Goals as goal
 
 pub loop-k-preserved : goal.loop-k-preserved
 loop-k-preserved c =
-    texts_more (numbered_text c.args.lines.now) c.loop-k.k-counter (string_bytes c.args.out.now) (string_bytes c.loop-k.out) c.as-str.result.now (string_bytes c.push-str.new.self) c.loop-k.invariant (c.as-str.ensures.value ∙ c.in-ok-text.ensures.ok) c.in-ok-push-str.ensures.bytes
+    texts_more (numbered_text c.args.lines.now) c.loop-k.k-counter (string_bytes c.args.out.now) (string_bytes c.loop-k.out) c.as_str.result.now (string_bytes c.push_str.new.self) c.loop-k.invariant (c.as_str.ensures.value ∙ c.in_ok-text.ensures.ok) c.in_ok-push_str.ensures.bytes

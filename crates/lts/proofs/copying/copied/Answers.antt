@@ -9,7 +9,7 @@ returns g c =
     let m = g.S.Source.meaning c.args.source.now in
     let law = g.S.Source.lawful c.args.source.now in
     let few = g.S.Source.bounded in
-    let room : total m ≤ 512 = omega (arith, c.step-total.ensures) in
+    let room : total m ≤ 512 = omega (arith, c.step_total.ensures) in
     let e : c.loop-s.s ≡ m.count = omega (arith, c.states-s-end.ensures) in
     let filled : Filled m m.count 0 c.loop-s.copy = rw e at c.loop-s.invariant in
     (room, sound_copy m law few c.loop-s.copy filled room, same_copy m law few c.loop-s.copy filled)

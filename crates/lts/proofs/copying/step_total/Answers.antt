@@ -2,8 +2,8 @@ use Rattle.std.proofs.Common.{rules}
 use Rattle.lts.proofs.Counting.{before_more, before_few}
 use Rattle.lts.proofs.copying.step_total.Goals as goal
 
-pub overflow-add-all : goal.overflow-add-all
-overflow-add-all g c =
+pub overflow_add-all : goal.overflow_add-all
+overflow_add-all g c =
     let m = g.S.Source.meaning c.args.source.now in
     let law = g.S.Source.lawful c.args.source.now in
     let b = before_few m law.short c.loop-s.s in

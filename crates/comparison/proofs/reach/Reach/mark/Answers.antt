@@ -4,7 +4,7 @@ use Rattle.comparison.specs.Reach.{numbers, total, Reached}
 use Rattle.comparison.proofs.Pairs.{take_whole}
 use Rattle.comparison.proofs.Tables.{reached_more, total_new, total_old, total_none, total_few, total_weight}
 use Rattle.comparison.proofs.reach.Reach.mark.Goals as goal
-use Rattle.comparison.proofs.reach.Reach.mark.Goals.{in-Some+then-put, in-Some+else-put, in-default}
+use Rattle.comparison.proofs.reach.Reach.mark.Goals.{in-Some+then-put, in-Some+else-put, in_default}
 
 pub loop-k-init : goal.loop-k-init
 loop-k-init g c = (λ a b x y. c.clear.ensures _, total_none c.clear.new.self c.clear.ensures)
@@ -15,8 +15,8 @@ put-requires g c =
     let law = g.S.System.lawful c.args.system.now in
     record { action = listed_action m law c.args.t c.loop-k.k c.in-Some.action c.in-Some.target c.in-Some.ensures; class = c.requires c.in-Some.target (listed_target m law c.args.t c.loop-k.k c.in-Some.action c.in-Some.target c.in-Some.ensures) }
 
-pub overflow-add-pairs : goal.overflow-add-pairs
-overflow-add-pairs g c = let h = total_few c.loop-k.self in let e = c.loop-k.invariant.1 in search rules
+pub overflow_add-pairs : goal.overflow_add-pairs
+overflow_add-pairs g c = let h = total_few c.loop-k.self in let e = c.loop-k.invariant.1 in search rules
 
 pub loop-k-preserved : goal.loop-k-preserved
 loop-k-preserved g c =
@@ -44,9 +44,9 @@ loop-k-preserved g c =
           let more = reached_more n xs k a u _ _ _ at low put c.loop-k.invariant.0 in
           let e = total_old _ _ a (n u) put in
           (rw w.self-is more, w.pairs-is ∙ (c.loop-k.invariant.1 ∙ (sym e ∙ ap total (sym w.self-is))))
-      | in-default w ↦
-          let past = nth_missing xs k w.in-default.ensures in
-          let b : ⊥ = omega (arith, c.step-count-k-end.ensures) in
+      | in_default w ↦
+          let past = nth_missing xs k w.in_default.ensures in
+          let b : ⊥ = omega (arith, c.step_count-k-end.ensures) in
           absurd b
     ]
 
@@ -54,6 +54,6 @@ pub returns : goal.returns
 returns g c =
     let n = numbers c.args.class.now in
     let xs = (g.S.System.meaning c.args.system.now).steps c.args.t in
-    let all : length xs ≤ c.loop-k.k = omega (arith, c.step-count-k-end.ensures) in
+    let all : length xs ≤ c.loop-k.k = omega (arith, c.step_count-k-end.ensures) in
     let reached = subst (λ (ys : List (ℕ × ℕ)). Reached n ys c.loop-k.self) (take_whole xs c.loop-k.k all) c.loop-k.invariant.0 in
     record { reached = reached; weighed = c.loop-k.invariant.1 ∙ total_weight n xs c.loop-k.self reached }

@@ -3,5 +3,5 @@ use lib.ListN.{length-replicate}
 use Rattle.comparison.proofs.Tables.{blank}
 use Rattle.comparison.proofs.reach.Reach.new.Goals as goal
 
-pub invariant-of-result : goal.invariant-of-result
-invariant-of-result c = (length-replicate {A = ℕ} 16384 0, (λ i. rw (blank 16384 i) (omega arith), tt))
+pub invariant_of-result : goal.invariant_of-result
+invariant_of-result c = (length-replicate {A = ℕ} 16384 0, (λ i. rw (blank 16384 i) (omega arith), tt))

@@ -5,7 +5,7 @@ use Rattle.shelves.specs.Moves.{account_of}
 use Rattle.console.specs.Sessions.{Session, none, Reached}
 use Rattle.console.proofs.console.Console.new.Goals as goal
 
-pub invariant-of-result : goal.invariant-of-result
-invariant-of-result c =
+pub invariant_of-result : goal.invariant_of-result
+invariant_of-result c =
     let shelved = subst (λ a. Reached a identity) (sym c.new.ensures) ([], [], none) in
     (∣ subst (λ entries. Reached (account_of c.new.result) entries) (sym c.identity.ensures) shelved ∣₁, tt)

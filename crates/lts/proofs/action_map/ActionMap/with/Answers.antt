@@ -2,5 +2,5 @@ use Rattle.std.proofs.Common.{arith}
 use Rattle.lts.proofs.Mapping.{changed_actions}
 use Rattle.lts.proofs.action_map.ActionMap.with.Goals as goal
 
-pub invariant-of-result : goal.invariant-of-result
-invariant-of-result c = (changed_actions c.args.self.now.entries c.args.action c.args.entry (omega arith) c.args.self.now.actions, tt)
+pub invariant_of-result : goal.invariant_of-result
+invariant_of-result c = (changed_actions c.args.self.now.entries c.args.action c.args.entry (omega arith) c.args.self.now.actions, tt)

@@ -8,7 +8,7 @@ returns-then-slot-gt7 c =
     let k = c.args.clearance.now in
     past_slot x.number x.claims x.slots.rows k.shelf k.slot k.claim x.room c.if-slot-gt7.true
 
-pub returns-in-err-procedure : goal.returns-in-err-procedure
-returns-in-err-procedure c =
+pub returns-in_err-procedure : goal.returns-in_err-procedure
+returns-in_err-procedure c =
     let x = c.args.self.now in
-    never_claimed x.slots.rows c.args.clearance.now.slot c.in-ok-row.row c.in-ok-latest.latest x.kept c.in-ok-row.was c.in-ok-latest.was c.in-err-procedure.was
+    never_claimed x.slots.rows c.args.clearance.now.slot c.in_ok-row.row c.in_ok-latest.latest x.kept c.in_ok-row.was c.in_ok-latest.was c.in_err-procedure.was

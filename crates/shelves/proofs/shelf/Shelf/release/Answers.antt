@@ -7,13 +7,13 @@ use Rattle.shelves.proofs.Clearing.{with_force, force_keeps, pending_means}
 use Rattle.shelves.proofs.Moving.{moves, put_does, put_ghost, slot_of}
 use Rattle.shelves.proofs.shelf.Shelf.release.Goals as goal
 
-pub returns-in-default : goal.returns-in-default
-returns-in-default c =
+pub returns-in_default : goal.returns-in_default
+returns-in_default c =
     let k = c.args.clearance.now in
-    record { moved = moves {c = release k.shelf k.slot k.claim} tt (refuses (rw c.in-default.ensures)); spent = refl }
+    record { moved = moves {c = release k.shelf k.slot k.claim} tt (refuses (rw c.in_default.ensures)); spent = refl }
 
-pub invariant-of-self : goal.invariant-of-self
-invariant-of-self c =
+pub invariant_of-self : goal.invariant_of-self
+invariant_of-self c =
     let x = c.args.self.now in
     let k = c.args.clearance.now in
     let r = c.in-Some.row in

@@ -3,16 +3,16 @@ use Rattle.std.proofs.lemmas.Result.{err_from_is_err_and}
 use Rattle.terms.proofs.Progress.{Progress, Promised, progress_more, progress_stop, progress_counted, refused_promised, finished_promised}
 use Rattle.terms.proofs.term.Term.read.Goals as goal
 
-pub returns-in-err-feed : goal.returns-in-err-feed
-returns-in-err-feed c =
+pub returns-in_err-feed : goal.returns-in_err-feed
+returns-in_err-feed c =
     let text = c.args.text.now in
-    let e = err_from_is_err_and c.from-residual.result c.from-residual.ensures.1 in
-    let stop = progress_stop text c.loop-offset.offset c.loop-offset.reader c.in-err-feed.field-0.0 c.loop-offset-test.true c.loop-offset.invariant c.in-err-feed.ensures in
-    rw (e.1, e.2) (refused_promised text c.in-err-feed.field-0.0 (omega arith) stop)
+    let e = err_from_is_err_and c.from_residual.result c.from_residual.ensures.1 in
+    let stop = progress_stop text c.loop-offset.offset c.loop-offset.reader c.in_err-feed.field-0.0 c.loop-offset-test.true c.loop-offset.invariant c.in_err-feed.ensures in
+    rw (e.1, e.2) (refused_promised text c.in_err-feed.field-0.0 (omega arith) stop)
 
 pub loop-offset-preserved : goal.loop-offset-preserved
 loop-offset-preserved c =
-    let h = c.in-ok-feed.ensures in
+    let h = c.in_ok-feed.ensures in
     progress_more c.args.text.now c.loop-offset.offset c.loop-offset.reader c.feed.new.self c.loop-offset-test.true c.loop-offset.invariant h.0 h.1
 
 pub finish-requires : goal.finish-requires

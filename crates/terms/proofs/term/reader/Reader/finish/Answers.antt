@@ -1,8 +1,8 @@
 use Rattle.terms.proofs.Finishing.{end_room, end_few, end_size, end_order, end_stands, end_small, end_inside, end_listed, unfinished}
 use Rattle.terms.proofs.term.reader.Reader.finish.Goals as goal
 
-pub invariant-of-result : goal.invariant-of-result
-invariant-of-result c =
+pub invariant_of-result : goal.invariant_of-result
+invariant_of-result c =
     let r = c.args.self.now in
     let r₁ = c.add-root.new.self in
     let x = c.in-Behind.product in
@@ -37,8 +37,8 @@ invariant-of-result c =
       ),
     )
 
-pub returns-in-default : goal.returns-in-default
-returns-in-default c = unfinished c.args.self.now c.in-Behind.product c.args.end c.in-Behind.is c.if-self-eq0.false
+pub returns-in_default : goal.returns-in_default
+returns-in_default c = unfinished c.args.self.now c.in-Behind.product c.args.end c.in-Behind.is c.if-self-eq0.false
 
 pub of-requires : goal.of-requires
 of-requires c =
