@@ -11,31 +11,17 @@ invariant_of-result c =
     let n = c.requires.counted in
     let e = c.in-Behind.is in
     let o = c.if-self-eq0.true in
-    let j = c.add-root.ensures in (
-      end_room r r₁ x k s n e o j,
-      (
-        j.below,
-        (
-          j.grown.table.falls,
-          (
-            end_few r r₁ x k s n e o j,
-            (
-              end_size r r₁ x k s n e o j,
-              (
-                end_order r r₁ x k s n e o j,
-                (
-                  end_inside r r₁ x k s n e o j c.of.result c.of.ensures,
-                  (
-                    end_listed r r₁ x k s n e o j c.of.result c.of.ensures,
-                    tt,
-                  ),
-                ),
-              ),
-            ),
-          ),
-        ),
-      ),
-    )
+    let j = c.add-root.ensures in
+    record {
+      fits = end_room r r₁ x k s n e o j;
+      rooted = j.below;
+      falls = j.grown.table.falls;
+      few = end_few r r₁ x k s n e o j;
+      sized = end_size r r₁ x k s n e o j;
+      order = end_order r r₁ x k s n e o j;
+      inside = end_inside r r₁ x k s n e o j c.of.result c.of.ensures;
+      listed = end_listed r r₁ x k s n e o j c.of.result c.of.ensures;
+    }
 
 pub returns-in_default : goal.returns-in_default
 returns-in_default c = unfinished c.args.self.now c.in-Behind.product c.args.end c.in-Behind.is c.if-self-eq0.false
