@@ -13,7 +13,13 @@ invariant_of-flat g c =
     let n = h.states in
     let some = law.some in
     let few = law.few in
-    (omega arith, (omega arith, (laid_room m law p h, (laid_acts m law p h, (laid_aims m law p h, tt)))))
+    record {
+      some = omega arith;
+      few = omega arith;
+      room = laid_room m law p h;
+      acts = laid_acts m law p h;
+      aims = laid_aims m law p h;
+    }
 
 pub refine_all-requires : goal.refine_all-requires
 refine_all-requires g c =
