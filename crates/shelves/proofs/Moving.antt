@@ -51,16 +51,11 @@ module _ (n made made' : ℕ) (rows rows' : List (Option Row)) (s : ℕ) (row : 
   pub put_does : Does (account n rows made) c r (account n rows' made')
   put_does = subst (λ a. Does (account n rows made) c r a) (sym (ap (λ zs. account n zs made') put ∙ put_account n made' rows s row x inside room means)) does
 
-  pub put_ghost : (AllKept rows → Keeps row) → ∥ AllKept rows ∥₁ → ∥ Reached n rows made ∥₁ → (length rows' ≡ 8) × (∥ AllKept rows' ∥₁ × (∥ Reached n rows' made' ∥₁ × Unit {0}))
+  pub put_ghost : (AllKept rows → Keeps row) → ∥ AllKept rows ∥₁ → ∥ Reached n rows made ∥₁ → (length rows' ≡ 8) × ∥ AllKept rows' ∥₁ × ∥ Reached n rows' made' ∥₁
   put_ghost keeps kept reached = (
     ap length put ∙ (length-set rows s (Some row) ∙ room),
-    (
-      ∥∥₁_map {B = AllKept rows'} kept (λ k. subst AllKept (sym put) (put_kept rows s row (omega arith) (keeps k) k)),
-      (
-        ∥∥₁_map {B = Reached n rows' made'} reached (reached_more n made made' rows rows' c r lawful put_does),
-        tt,
-      ),
-    ),
+    ∥∥₁_map {B = AllKept rows'} kept (λ k. subst AllKept (sym put) (put_kept rows s row (omega arith) (keeps k) k)),
+    ∥∥₁_map {B = Reached n rows' made'} reached (reached_more n made made' rows rows' c r lawful put_does),
   )
 
 -- a row with a new claim keeps what the old one kept

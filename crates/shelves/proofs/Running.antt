@@ -10,13 +10,13 @@ use Rattle.comparison.specs.declared.report.Verdict.{Verdict}
 use Rattle.comparison.specs.declared.report.Verdict.TheVariants.{Same, Different}
 use Rattle.theory.specs.Formulas.{depth}
 use Rattle.accounts.specs.Account.{Account, new}
-use Rattle.accounts.specs.Calls.{Call, submit, Event, Run, start}
+use Rattle.accounts.specs.Calls.{Call, submit, called_same, Event, Run, start}
 use Rattle.accounts.specs.Law.{Law}
 use Rattle.accounts.proofs.Lasting.{lasting, run_number}
 use Rattle.shelves.specs.Moves.{Moved, told, fault_answer, Unweighed}
 use Rattle.shelves.specs.Runs.{outcome_of, fault_outcome, depth_of, Performed, Follows}
 use Rattle.shelves.specs.declared.call.Outcome.{Outcome}
-use Rattle.shelves.specs.declared.call.Outcome.TheVariants.{Different as Separated}
+use Rattle.shelves.specs.declared.call.Outcome.TheVariants.{Same as Agreed, Different as Separated}
 use Rattle.shelves.specs.declared.fault.ShelfFault.{ShelfFault}
 use Rattle.shelves.specs.declared.fault.ShelfFault.TheVariants.{Slot, Taken, Empty, Pending, Steps, Room, Different as Differs, Nothing, Claims, Clearance as Uncleared}
 
@@ -41,6 +41,11 @@ unlike_told Uncleared a s m lines lines' classes classes' w = refl
 pub unlike_performed : (f : ShelfFault) (o : Outcome) (a a' : Account) (s : ℕ) (m : Meaning) (lines lines' : List Line) (classes classes' : List ℕ) (l k : ℕ) → length lines ≡ l → length classes ≡ k → o ≡ fault_outcome f → Moved a (submit s m (length lines) (length classes)) (fault_answer f lines') a' → Unweighed f a s m lines classes lines' classes' → Performed a (submit s m l k) o a'
 unlike_performed f o a a' s m lines lines' classes classes' l k el ek eo moved w =
     record { answer = fault_answer f lines'; moved = subst (λ x. Moved a (submit s m x k) (fault_answer f lines') a') el (subst (λ y. Moved a (submit s m (length lines) y) (fault_answer f lines') a') ek moved); told = eo ∙ sym (unlike_told f a s m lines lines' classes classes' w) }
+
+-- a submission that is the same
+pub same_performed : (a a' : Account) (s : ℕ) (m : Meaning) (lines : List Line) (classes : List ℕ) (l k : ℕ) → length lines ≡ l → length classes ≡ k → Moved a (submit s m (length lines) (length classes)) called_same a' → Performed a (submit s m l k) Agreed a'
+same_performed a a' s m lines classes l k el ek moved =
+    record { answer = called_same; moved = subst (λ x. Moved a (submit s m x k) called_same a') el (subst (λ y. Moved a (submit s m (length lines) y) called_same a') ek moved); told = refl }
 
 -- no call yet
 pub follows_none : (n : ℕ) (a : Account) → a ≡ new n → Follows n [] [] a

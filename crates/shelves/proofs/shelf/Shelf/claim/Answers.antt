@@ -16,8 +16,9 @@ invariant_of-self c =
     let x = c.args.self.now in
     let f = c.in_ok-row.ensures in
     let k = x.claims + 1 in
-    put_ghost x.number x.claims k x.slots.rows c.put.new.self.rows c.args.slot c.in_ok-row.row (with_claim (filled f.3.0) k) (claim c.args.slot) (cleared x.number c.args.slot k) f.1 x.room c.put.ensures (claimed_means f.3.0 c.in_ok-row.row k f.3.3) tt (claims f.0 (slot_of x.number x.claims x.slots.rows c.args.slot f.3.0 f.3.1))
-    (claimed_keeps x.slots.rows c.args.slot k f.3.0 c.in_ok-row.row f.3.1 f.3.2 f.3.3) x.kept x.reached
+    let h = put_ghost x.number x.claims k x.slots.rows c.put.new.self.rows c.args.slot c.in_ok-row.row (with_claim (filled f.3.0) k) (claim c.args.slot) (cleared x.number c.args.slot k) f.1 x.room c.put.ensures (claimed_means f.3.0 c.in_ok-row.row k f.3.3) tt (claims f.0 (slot_of x.number x.claims x.slots.rows c.args.slot f.3.0 f.3.1))
+    (claimed_keeps x.slots.rows c.args.slot k f.3.0 c.in_ok-row.row f.3.1 f.3.2 f.3.3) x.kept x.reached in
+    record { room = h.0; kept = h.1; reached = h.2 }
 
 pub returns : goal.returns
 returns c =

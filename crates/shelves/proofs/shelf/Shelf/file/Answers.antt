@@ -16,7 +16,8 @@ invariant_of-self g c =
     let x = c.args.self.now in
     let m = g.S.Source.meaning c.args.source.now in
     let f = c.in_ok-row.ensures in
-    put_ghost x.number x.claims x.claims x.slots.rows c.put.new.self.rows c.args.slot c.in_ok-row.row (fresh m) (file c.args.slot m) accepted f.1 x.room c.put.ensures f.3 (lawful_most g.row.N m g.S.Source.bounded (g.S.Source.lawful c.args.source.now)) (files f.0) (λ _. f.2) x.kept x.reached
+    let h = put_ghost x.number x.claims x.claims x.slots.rows c.put.new.self.rows c.args.slot c.in_ok-row.row (fresh m) (file c.args.slot m) accepted f.1 x.room c.put.ensures f.3 (lawful_most g.row.N m g.S.Source.bounded (g.S.Source.lawful c.args.source.now)) (files f.0) (λ _. f.2) x.kept x.reached in
+    record { room = h.0; kept = h.1; reached = h.2 }
 
 pub returns : goal.returns
 returns g c =

@@ -18,8 +18,9 @@ invariant_of-self c =
     let k = c.args.clearance.now in
     let r = c.in-Some.row in
     let f = c.in-Some.ensures in
-    put_ghost x.number x.claims x.claims x.slots.rows c.put.new.self.rows k.slot (with_force r c.in-Some.procedure) (released (filled r) (stored c.in-Some.procedure)) (release k.shelf k.slot k.claim) accepted f.1 x.room c.put.ensures refl tt (releases (rw f.0) (slot_of x.number x.claims x.slots.rows k.slot r f.2) (pending_means r c.in-Some.procedure f.3))
-    (force_keeps x.slots.rows k.slot r c.in-Some.procedure f.2 f.3) x.kept x.reached
+    let h = put_ghost x.number x.claims x.claims x.slots.rows c.put.new.self.rows k.slot (with_force r c.in-Some.procedure) (released (filled r) (stored c.in-Some.procedure)) (release k.shelf k.slot k.claim) accepted f.1 x.room c.put.ensures refl tt (releases (rw f.0) (slot_of x.number x.claims x.slots.rows k.slot r f.2) (pending_means r c.in-Some.procedure f.3))
+    (force_keeps x.slots.rows k.slot r c.in-Some.procedure f.2 f.3) x.kept x.reached in
+    record { room = h.0; kept = h.1; reached = h.2 }
 
 pub returns : goal.returns
 returns c =

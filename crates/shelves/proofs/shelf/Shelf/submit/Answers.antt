@@ -50,9 +50,10 @@ invariant_of-self g c =
     let p = c.in_ok-row.procedure in
     let f = c.in_ok-row.ensures in
     let h = c.in_ok-report.ensures in
-    put_ghost x.number x.claims x.claims x.slots.rows c.put.new.self.rows c.args.slot (with_procedure row p) (with_pending (filled row) m) (submit c.args.slot m (length c.args.lines.now) (length c.args.classes.now)) called_same f.0 x.room c.put.ensures (pending_row x.number x.claims x.slots.rows c.args.slot m row p c.args.lines.now c.args.classes.now f) law
+    let h = put_ghost x.number x.claims x.claims x.slots.rows c.put.new.self.rows c.args.slot (with_procedure row p) (with_pending (filled row) m) (submit c.args.slot m (length c.args.lines.now) (length c.args.classes.now)) called_same f.0 x.room c.put.ensures (pending_row x.number x.claims x.slots.rows c.args.slot m row p c.args.lines.now c.args.classes.now f) law
     (same_does x.number x.claims x.slots.rows c.args.slot m row p c.args.lines.now c.args.classes.now f c.in_ok-report.report c.weigh.new.lines c.weigh.new.classes h c.in-Same.is)
-    (same_keeps x.number x.claims x.slots.rows c.args.slot m row p c.args.lines.now c.args.classes.now f c.in_ok-report.report c.weigh.new.lines c.weigh.new.classes h c.in-Same.is) x.kept x.reached
+    (same_keeps x.number x.claims x.slots.rows c.args.slot m row p c.args.lines.now c.args.classes.now f c.in_ok-report.report c.weigh.new.lines c.weigh.new.classes h c.in-Same.is) x.kept x.reached in
+    record { room = h.0; kept = h.1; reached = h.2 }
 
 pub returns-in-Same : goal.returns-in-Same
 returns-in-Same g c =

@@ -17,8 +17,9 @@ invariant_of-self c =
     let k = c.args.clearance.now in
     let r = c.in-Some.row in
     let f = c.in-Some.ensures in
-    put_ghost x.number x.claims x.claims x.slots.rows c.put.new.self.rows k.slot (without_pending r) (withdrawn (filled r)) (withdraw k.shelf k.slot k.claim) accepted f.1 x.room c.put.ensures refl tt (withdraws (rw f.0) (slot_of x.number x.claims x.slots.rows k.slot r f.2))
-    (without_keeps x.slots.rows k.slot r f.2) x.kept x.reached
+    let h = put_ghost x.number x.claims x.claims x.slots.rows c.put.new.self.rows k.slot (without_pending r) (withdrawn (filled r)) (withdraw k.shelf k.slot k.claim) accepted f.1 x.room c.put.ensures refl tt (withdraws (rw f.0) (slot_of x.number x.claims x.slots.rows k.slot r f.2))
+    (without_keeps x.slots.rows k.slot r f.2) x.kept x.reached in
+    record { room = h.0; kept = h.1; reached = h.2 }
 
 pub returns : goal.returns
 returns c =
