@@ -14,12 +14,3 @@ returns-in-0-to-9 c = (omega arith, digit (omega arith) (omega arith))
 
 pub returns-in_default : goal.returns-in_default
 returns-in_default c = (refl, λ l a. no_letter (λ low high. omega (arith, low, high)) (λ low high. omega (arith, low, high)) (λ low high. omega (arith, low, high)))
-
-pub returns-in_default·2 : goal.returns-in_default·2
-returns-in_default·2 c = (refl, λ l a. no_letter (λ low high. omega (arith, low, high)) (λ low high. omega (arith, low, high)) (λ low high. omega (arith, low, high)))
-
-pub returns-in_default·3 : goal.returns-in_default·3
-returns-in_default·3 c = (refl, λ l a. no_letter (λ low high. omega (arith, low, high)) (λ low high. omega (arith, low, high)) (λ low high. omega (arith, low, high)))
-
-pub returns-in_default·4 : goal.returns-in_default·4
-returns-in_default·4 c = (refl, λ l a. no_letter (λ low high. omega (arith, low, high)) (λ low high. omega (arith, low, high)) (λ low high. omega (arith, low, high)))
