@@ -4,21 +4,21 @@ use Rattle.explanations.specs.Formulas.{formula_text}
 use Rattle.explanations.proofs.Spelling.{is_step, action_length, true_length, end_length, not_length, both_length, step_length, room_one, room_more, room_short, room_both, room_first}
 use Rattle.explanations.proofs.formula.+room_behind.Goals as goal
 
-pub returns-in_err-room : goal.returns-in_err-room
-returns-in_err-room t c =
+pub returns-in_err-room-in-Not : goal.returns-in_err-room-in-Not
+returns-in_err-room-in-Not t c =
     let n = not_length c.args.lines.now c.requires.well c.args.i c.requires.inside c.in-Not.j c.in-Not.is in
-    c.from_residual.ensures ∙ room_short c.args.room 1 (formula_text (formula c.args.lines.now c.args.i)) c.in_err-room.ensures (omega arith)
+    c.from_residual.ensures ∙ room_short c.args.room 1 (formula_text (formula c.args.lines.now c.args.i)) c.in_err-room-in-Not.ensures (omega arith)
 
-pub returns-in_err-room-2 : goal.returns-in_err-room-2
-returns-in_err-room-2 t c =
+pub returns-in_err-room-in-Both : goal.returns-in_err-room-in-Both
+returns-in_err-room-in-Both t c =
     let n = both_length c.args.lines.now c.requires.well c.args.i c.requires.inside c.in-Both.j c.in-Both.k c.in-Both.is in
-    c.from_residual-in_err-room-2.ensures ∙ room_short c.args.room 5 (formula_text (formula c.args.lines.now c.args.i)) c.in_err-room-2.ensures (omega arith)
+    c.from_residual-in_err-room-in-Both.ensures ∙ room_short c.args.room 5 (formula_text (formula c.args.lines.now c.args.i)) c.in_err-room-in-Both.ensures (omega arith)
 
-pub returns-in_err-behind : goal.returns-in_err-behind
-returns-in_err-behind t c =
+pub returns-in_err-behind-in-Both : goal.returns-in_err-behind-in-Both
+returns-in_err-behind-in-Both t c =
     let n = both_length c.args.lines.now c.requires.well c.args.i c.requires.inside c.in-Both.j c.in-Both.k c.in-Both.is in
-    let r = c.in_ok-room-2.ensures in
-    c.from_residual-in_err-behind.ensures ∙ room_first c.args.room c.in_ok-room-2.room 5 (formula_text (formula c.args.lines.now c.in-Both.j)) (formula_text (formula c.args.lines.now c.in-Both.k)) (formula_text (formula c.args.lines.now c.args.i)) (omega arith) n c.in_err-behind.ensures
+    let r = c.in_ok-room-in-Both.ensures in
+    c.from_residual-in_err-behind-in-Both.ensures ∙ room_first c.args.room c.in_ok-room-in-Both.room 5 (formula_text (formula c.args.lines.now c.in-Both.j)) (formula_text (formula c.args.lines.now c.in-Both.k)) (formula_text (formula c.args.lines.now c.args.i)) (omega arith) n c.in_err-behind-in-Both.ensures
 
 pub overflow_add-name_length : goal.overflow_add-name_length
 overflow_add-name_length t c =
@@ -28,11 +28,11 @@ overflow_add-name_length t c =
     let b : c.name_length.result ≤ 3 = omega arith in
     search rules
 
-pub returns-in_err-room-3 : goal.returns-in_err-room-3
-returns-in_err-room-3 t c =
+pub returns-in_err-room-in-Step : goal.returns-in_err-room-in-Step
+returns-in_err-room-in-Step t c =
     let n = step_length c.args.lines.now c.requires.well c.args.i c.requires.inside c.in-Step.action c.in-Step.j c.in-Step.is in
     let w = c.name_length.ensures in
-    c.from_residual-in_err-room-3.ensures ∙ room_short c.args.room (2 + c.name_length.result) (formula_text (formula c.args.lines.now c.args.i)) c.in_err-room-3.ensures (omega arith)
+    c.from_residual-in_err-room-in-Step.ensures ∙ room_short c.args.room (2 + c.name_length.result) (formula_text (formula c.args.lines.now c.args.i)) c.in_err-room-in-Step.ensures (omega arith)
 
 pub returns-in-True : goal.returns-in-True
 returns-in-True t c =
@@ -42,21 +42,21 @@ pub returns-in-End : goal.returns-in-End
 returns-in-End t c =
     room_one c.checked_sub-in-End.result c.args.room (formula_text (formula c.args.lines.now c.args.i)) c.checked_sub-in-End.ensures (end_length c.args.lines.now c.requires.well c.args.i c.requires.inside c.in-End.is)
 
-pub returns-in_ok-room : goal.returns-in_ok-room
-returns-in_ok-room t c =
+pub returns-in_ok-room-in-Not : goal.returns-in_ok-room-in-Not
+returns-in_ok-room-in-Not t c =
     let n = not_length c.args.lines.now c.requires.well c.args.i c.requires.inside c.in-Not.j c.in-Not.is in
-    let r = c.in_ok-room.ensures in
-    c.room_behind.ensures ∙ room_more c.args.room c.in_ok-room.room 1 (formula_text (formula c.args.lines.now c.in-Not.j)) (formula_text (formula c.args.lines.now c.args.i)) (omega arith) n
+    let r = c.in_ok-room-in-Not.ensures in
+    c.room_behind.ensures ∙ room_more c.args.room c.in_ok-room-in-Not.room 1 (formula_text (formula c.args.lines.now c.in-Not.j)) (formula_text (formula c.args.lines.now c.args.i)) (omega arith) n
 
-pub returns-in_ok-behind : goal.returns-in_ok-behind
-returns-in_ok-behind t c =
+pub returns-in_ok-behind-in-Both : goal.returns-in_ok-behind-in-Both
+returns-in_ok-behind-in-Both t c =
     let n = both_length c.args.lines.now c.requires.well c.args.i c.requires.inside c.in-Both.j c.in-Both.k c.in-Both.is in
-    let r = c.in_ok-room-2.ensures in
-    c.room_behind-in-Both-2.ensures ∙ room_both c.args.room c.in_ok-room-2.room 5 (formula_text (formula c.args.lines.now c.in-Both.j)) (formula_text (formula c.args.lines.now c.in-Both.k)) (formula_text (formula c.args.lines.now c.args.i)) (omega arith) n c.in_ok-behind.behind c.in_ok-behind.ensures
+    let r = c.in_ok-room-in-Both.ensures in
+    c.room_behind-in-Both-2.ensures ∙ room_both c.args.room c.in_ok-room-in-Both.room 5 (formula_text (formula c.args.lines.now c.in-Both.j)) (formula_text (formula c.args.lines.now c.in-Both.k)) (formula_text (formula c.args.lines.now c.args.i)) (omega arith) n c.in_ok-behind-in-Both.behind c.in_ok-behind-in-Both.ensures
 
-pub returns-in_ok-room-3 : goal.returns-in_ok-room-3
-returns-in_ok-room-3 t c =
+pub returns-in_ok-room-in-Step : goal.returns-in_ok-room-in-Step
+returns-in_ok-room-in-Step t c =
     let n = step_length c.args.lines.now c.requires.well c.args.i c.requires.inside c.in-Step.action c.in-Step.j c.in-Step.is in
     let w = c.name_length.ensures in
-    let r = c.in_ok-room-3.ensures in
-    c.room_behind-in-Step.ensures ∙ room_more c.args.room c.in_ok-room-3.room (2 + c.name_length.result) (formula_text (formula c.args.lines.now c.in-Step.j)) (formula_text (formula c.args.lines.now c.args.i)) (omega arith) (omega arith)
+    let r = c.in_ok-room-in-Step.ensures in
+    c.room_behind-in-Step.ensures ∙ room_more c.args.room c.in_ok-room-in-Step.room (2 + c.name_length.result) (formula_text (formula c.args.lines.now c.in-Step.j)) (formula_text (formula c.args.lines.now c.args.i)) (omega arith) (omega arith)

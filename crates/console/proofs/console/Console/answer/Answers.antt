@@ -13,7 +13,7 @@ returns-in-Err c = unfit c.in-Err.fault c.in-Err.ensures c.refused.ensures
 pub invariant_of-self : goal.invariant_of-self
 invariant_of-self c =
     let form = subst (λ v. Form c.args.line.now (asked v)) c.in-File.is c.in-Ok.ensures in
-    (∥∥₁_map c.args.self.now.reached (reached_more (c.file-outcome.ensures.did c.args.line.now form)), tt)
+    record { reached = ∥∥₁_map c.args.self.now.reached (reached_more (c.file-outcome.ensures.did c.args.line.now form)) }
 
 pub returns-in-File : goal.returns-in-File
 returns-in-File c =
@@ -23,7 +23,7 @@ returns-in-File c =
 pub invariant_of-self-in-Submit : goal.invariant_of-self-in-Submit
 invariant_of-self-in-Submit c =
     let form = subst (λ v. Form c.args.line.now (asked v)) c.in-Submit.is c.in-Ok.ensures in
-    (∥∥₁_map c.args.self.now.reached (reached_more (c.submit-outcome.ensures.did c.args.line.now form)), tt)
+    record { reached = ∥∥₁_map c.args.self.now.reached (reached_more (c.submit-outcome.ensures.did c.args.line.now form)) }
 
 pub returns-in-Submit : goal.returns-in-Submit
 returns-in-Submit c =
@@ -33,7 +33,7 @@ returns-in-Submit c =
 pub invariant_of-self-in-Release : goal.invariant_of-self-in-Release
 invariant_of-self-in-Release c =
     let form = subst (λ v. Form c.args.line.now (asked v)) c.in-Release.is c.in-Ok.ensures in
-    (∥∥₁_map c.args.self.now.reached (reached_more (c.release-outcome.ensures.did c.args.self.now.map.entries c.args.line.now form)), tt)
+    record { reached = ∥∥₁_map c.args.self.now.reached (reached_more (c.release-outcome.ensures.did c.args.self.now.map.entries c.args.line.now form)) }
 
 pub returns-in-Release : goal.returns-in-Release
 returns-in-Release c =
@@ -43,7 +43,7 @@ returns-in-Release c =
 pub invariant_of-self-in-Withdraw : goal.invariant_of-self-in-Withdraw
 invariant_of-self-in-Withdraw c =
     let form = subst (λ v. Form c.args.line.now (asked v)) c.in-Withdraw.is c.in-Ok.ensures in
-    (∥∥₁_map c.args.self.now.reached (reached_more (c.withdraw-outcome.ensures.did c.args.self.now.map.entries c.args.line.now form)), tt)
+    record { reached = ∥∥₁_map c.args.self.now.reached (reached_more (c.withdraw-outcome.ensures.did c.args.self.now.map.entries c.args.line.now form)) }
 
 pub returns-in-Withdraw : goal.returns-in-Withdraw
 returns-in-Withdraw c =
@@ -58,7 +58,7 @@ unreachable-requires c =
 pub invariant_of-self-in-Some : goal.invariant_of-self-in-Some
 invariant_of-self-in-Some c =
     let form = subst (λ v. Form c.args.line.now (asked v)) c.in-Rename.is c.in-Ok.ensures in
-    (∥∥₁_map c.args.self.now.reached (reached_more (renamed form c.in-Some.ensures.2)), tt)
+    record { reached = ∥∥₁_map c.args.self.now.reached (reached_more (renamed form c.in-Some.ensures.2)) }
 
 pub returns-in-Some : goal.returns-in-Some
 returns-in-Some c =

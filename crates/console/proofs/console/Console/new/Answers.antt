@@ -8,4 +8,4 @@ use Rattle.console.proofs.console.Console.new.Goals as goal
 pub invariant_of-result : goal.invariant_of-result
 invariant_of-result c =
     let shelved = subst (λ a. Reached a identity) (sym c.new.ensures) ([], [], none) in
-    (∣ subst (λ entries. Reached (account_of c.new.result) entries) (sym c.identity.ensures) shelved ∣₁, tt)
+    record { reached = ∣ subst (λ entries. Reached (account_of c.new.result) entries) (sym c.identity.ensures) shelved ∣₁ }
