@@ -47,7 +47,7 @@ fn explain_lines(rt: &HostRuntime, answers: &mut Answers) -> io::Result<()> {
 
 // Explains the pair of the two words, or the pairs of standard input where there is no word.
 fn main(rt: HostRuntime) -> io::Result<()> {
-    let mut answers = Answers::new(&rt);
+    let mut answers = Answers::new(&rt)?;
     let mut words = env::args(&rt)?.skip(1);
     match words.next() {
         Some(left) => {

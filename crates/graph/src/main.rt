@@ -37,7 +37,7 @@ fn draw_lines(rt: &HostRuntime, answers: &mut Answers, form: Form) -> io::Result
 
 // Draws what each word names, or each line where no word does; an option is for the words behind it.
 fn main(rt: HostRuntime) -> io::Result<()> {
-    let mut answers = Answers::new(&rt);
+    let mut answers = Answers::new(&rt)?;
     let mut form = Form::Table;
     let mut named = false;
     for word in env::args(&rt)?.skip(1) {

@@ -1,5 +1,5 @@
 // Answers on standard output, with an empty line between two.
-ghost use Rattle.std.specs.Prelude.{◌≡◌, true, false, is_ok};
+ghost use Rattle.std.specs.Prelude.{◌≡◌, true, false, is_ok, IfOk};
 
 use std::io;
 use std::io::{BufWriter, Stdout, Write};
@@ -23,15 +23,15 @@ pub struct Answers {
 }
 
 impl Answers {
-    pub fn new(rt: &HostRuntime) -> Answers
-        ensures told { result.told ≡ false }
-        ensures missed { result.missed ≡ false }
+    pub fn new(rt: &HostRuntime) -> io::Result<Answers>
+        ensures told { IfOk result (λ a. a.told ≡ false) }
+        ensures missed { IfOk result (λ a. a.missed ≡ false) }
     {
-        Answers {
-            out: BufWriter::new(rt.stdout()),
+        Ok(Answers {
+            out: BufWriter::new(rt.alloc(), rt.stdout())?,
             told: false,
             missed: false,
-        }
+        })
     }
 
     // An answer behind those before.
