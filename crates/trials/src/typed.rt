@@ -26,7 +26,7 @@ fn lines_by_their_form(rt: HostRuntime) -> Result<(), Fail> {
     let told =
         b"refused 40 at 0\nrefused 40 at 1\nrefused 40 at 3\nrefused 40 at 3\nF 0 refused 12 at 0\nF 9 refused 20\nrefused 40 at 3\nrefused 40 at 4\nrefused 40 at 0\nrefused 40 at 0\nrefused 40 at 3\nrefused 40 at 0\nrefused 40 at 0\nrefused 40 at 2\nrefused 40 at 3\nF 0 refused 11 at 1\nM ok\n";
     let out = session(rt.alloc(), typed)?;
-    assert!(rt; out.as_slice() == told);
+    assert!(rt; out.as_slice() == told.as_slice());
     Ok(())
 }
 
@@ -38,7 +38,7 @@ fn inputs_by_their_length(rt: HostRuntime) -> Result<(), Fail> {
     match admit(&input) {
         Ok(()) => Err(Fail::new("read")),
         Err(fault) => {
-            assert!(rt; Output::refused(&fault).bytes() == b"refused 41\n");
+            assert!(rt; Output::refused(&fault).bytes() == b"refused 41\n".as_slice());
             Ok(())
         },
     }

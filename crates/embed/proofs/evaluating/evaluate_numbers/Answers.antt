@@ -7,9 +7,9 @@ use Rattle.embed.specs.Numbers.{lines_of}
 use Rattle.embed.proofs.Many.{too_many}
 use Rattle.embed.proofs.evaluating.evaluate_numbers.Goals as goal
 
-pub returns-then-count-gt-MOST-LINES : goal.returns-then-count-gt-MOST-LINES
-returns-then-count-gt-MOST-LINES c =
-    record { result = Err Count; evaluated = (too_many c.args.numbers.now c.args.line c.args.state (meaning_of c.args.source.now).count (length c.args.work.now) c.if-count-gt-MOST-LINES.true, refl); answered = c.told.ensures }
+pub returns-then-count-gt-MOST_LINES : goal.returns-then-count-gt-MOST_LINES
+returns-then-count-gt-MOST_LINES c =
+    record { result = Err Count; evaluated = (too_many c.args.numbers.now c.args.line c.args.state (meaning_of c.args.source.now).count (length c.args.work.now) c.if-count-gt-MOST_LINES.true, refl); answered = c.told.ensures }
 
 pub returns : goal.returns
 returns c =

@@ -2,4 +2,4 @@ use Rattle.std.proofs.Common.{◌≡◌, length}
 use Rattle.tables.proofs.tests.the_largest_files_are_read.Given as goal
 
 abbrev pub invariant-loop-i : goal.invariant-loop-i
-invariant-loop-i l = length l.file ≡ 16385
+invariant-loop-i g l = length l.file ≡ 16385
