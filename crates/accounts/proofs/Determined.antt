@@ -1,8 +1,7 @@
 -- The account and the call alone determine the account after it.
-use Rattle.std.proofs.Common.{◌≡◌, ℕ, ◌+◌, List, [], ◌∷◌, Some, None, Option, sym, refl, ap, ◌∙◌, subst, arith}
-use Rattle.lts.specs.Meaning.{Meaning}
-use Rattle.accounts.specs.Account.{Alike, Filled, Account, new, with_slot, with_pending, with_claim, released, withdrawn, one_made}
-use Rattle.accounts.specs.Calls.{Call, Answer, refusal, Event, Does, refuses, files, agrees, differs, claims, releases, withdraws, Run, start, more}
+use Rattle.std.proofs.Common.{◌≡◌, ℕ, ◌+◌, [], ◌∷◌, Some, sym, refl, ap, ◌∙◌, subst, arith}
+use Rattle.accounts.specs.Account.{Alike, Filled, Account, with_slot, with_pending, with_claim, released, withdrawn, one_made}
+use Rattle.accounts.specs.Calls.{Call, Answer, refusal, Does, refuses, files, agrees, differs, claims, releases, withdraws, start, more}
 use Rattle.accounts.specs.Law.{calls_of, Determined}
 
 -- two constructors are never equal

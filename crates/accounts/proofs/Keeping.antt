@@ -1,11 +1,10 @@
 -- What every run keeps of each slot.
-use Rattle.std.proofs.Common.{◌≡◌, ℕ, ◌+◌, ◌<◌, ◌≤◌, Bool, true, false, cond, eqb, ltb, ◌⊎◌, List, [], ◌∷◌, is_some, Some, None, Option, sym, refl, ap, ◌∙◌, subst, inl, inr, ⊎_elim, arith}
+use Rattle.std.proofs.Common.{◌≡◌, ℕ, ◌+◌, Bool, true, false, cond, eqb, ltb, List, ◌∷◌, Some, None, Option, sym, refl, ◌∙◌, subst, ⊎_elim, arith}
 use Rattle.std.proofs.lemmas.Bool.{cases_eq, eq-eqb, ne_eqb, cond-true, cond-false}
-use Rattle.lts.specs.Copying.{total}
 use Rattle.lts.specs.Meaning.{Meaning, Lawful}
-use Rattle.theory.proofs.Relations.{related_reflexive, related_symmetric, related_transitive, lawful_inside}
+use Rattle.theory.proofs.Relations.{related_reflexive, related_transitive, lawful_inside}
 use Rattle.accounts.specs.Account.{Alike, Filled, Account, new, with_slot, fresh, with_pending, with_claim, released, withdrawn, one_made}
-use Rattle.accounts.specs.Calls.{Call, file, submit, claim, release, withdraw, Answer, accepted, called_same, called_different, cleared, refused, refusal, Event, LawfulCall, Does, refuses, files, agrees, differs, claims, releases, withdraws, Run, start, more}
+use Rattle.accounts.specs.Calls.{Call, file, submit, claim, release, withdraw, Answer, accepted, called_same, cleared, refused, refusal, Event, LawfulCall, Does, refuses, files, agrees, differs, claims, releases, withdraws, Run, start, more}
 use Rattle.accounts.specs.Law.{filed, or_else, first_filed}
 use Rattle.accounts.proofs.Determined.{never}
 

@@ -1,12 +1,12 @@
 -- Every run keeps the law.
-use Rattle.std.proofs.Common.{◌≡◌, ℕ, ◌+◌, ◌⊎◌, List, [], ◌∷◌, ◌++◌, Some, None, Option, sym, refl, ap, ◌∙◌, subst, inl, inr, ⊎_elim}
+use Rattle.std.proofs.Common.{◌≡◌, ℕ, ◌+◌, List, [], ◌∷◌, ◌++◌, Some, None, refl, ap, ◌∙◌, subst, inl, inr, ⊎_elim}
 use Rattle.lts.specs.Meaning.{Meaning}
-use Rattle.theory.specs.Formulas.{Formula, depth, Tells, Separates}
+use Rattle.theory.specs.Formulas.{Formula}
 use Rattle.theory.proofs.Formulas.{related_formulas}
 use Rattle.theory.proofs.Relations.{related_symmetric}
 use Rattle.accounts.specs.Account.{Alike, Least, Filled, Account}
 use Rattle.accounts.specs.Calls.{Call, submit, claim, Answer, cleared, refusal, Event, Does, refuses, agrees, differs, claims, files, releases, withdraws, Run, start, more}
-use Rattle.accounts.specs.Law.{first_filed, Called, Law, Lasting}
+use Rattle.accounts.specs.Law.{first_filed, Called, Lasting}
 use Rattle.accounts.proofs.Determined.{never, determined}
 use Rattle.accounts.proofs.Keeping.{alike_through, Keeps, kept}
 

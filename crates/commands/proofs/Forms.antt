@@ -1,5 +1,5 @@
 -- What a line of the form has at its first places.
-use Rattle.std.proofs.Common.{◌≡◌, ℕ, ◌<◌, ◌≤◌, ◌⊎◌, List, [], ◌∷◌, length, get_or, refl, inl, inr, ⊎_elim, arith}
+use Rattle.std.proofs.Common.{◌≡◌, ℕ, ◌≤◌, List, length, get_or, refl, ⊎_elim, arith}
 use Rattle.terms.specs.Grammar.{Letter}
 use Rattle.commands.specs.Form.{Request, Digit, Form, files, submits, releases, withdraws, renames}
 use Rattle.commands.specs.Letters.{letter_of, Texted, Alone, Slotted}

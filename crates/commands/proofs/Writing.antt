@@ -1,5 +1,5 @@
 -- Texts written one behind another, cut off at 32 bytes.
-use Rattle.std.proofs.Common.{◌≡◌, ℕ, zero, suc, ◌+◌, ◌/◌, ◌%◌, ◌^◌, ◌<◌, ◌≤◌, List, [], ◌∷◌, ◌++◌, length, get_or, take, set, decimal, sym, refl, ap, ◌∙◌, subst, append_assoc, append-nil, arith, length-append, take_all, take_at}
+use Rattle.std.proofs.Common.{◌≡◌, ℕ, zero, suc, ◌+◌, ◌/◌, ◌%◌, ◌^◌, ◌<◌, ◌≤◌, List, [], ◌∷◌, ◌++◌, length, get_or, take, set, decimal, sym, refl, ap, ◌∙◌, append_assoc, append-nil, arith, take_all, take_at}
 use Rattle.std.proofs.lemmas.List.{take_more, take_more_set, length-take-le, length_push}
 use Rattle.std.proofs.lemmas.Fmt.{decimal_step}
 

@@ -1,5 +1,5 @@
 -- The lines that are answered, without their line feed.
-use Rattle.std.specs.Prelude.{ℕ, List, [], ◌∷◌, ◌++◌, Ok, Err, codes, decimal, Result}
+use Rattle.std.specs.Prelude.{ℕ, List, ◌∷◌, ◌++◌, Ok, Err, codes, decimal, Result}
 use Rattle.refusals.specs.Texts.{refusal_text}
 use Rattle.commands.specs.Faults.{of_console}
 use Rattle.commands.specs.Letters.{letter_of}

@@ -1,5 +1,5 @@
 -- When the rounds end.
-use Rattle.std.proofs.Common.{◌≡◌, ℕ, suc, ◌+◌, ◌-◌, ◌<◌, ◌≤◌, List, sym, subst, add-one, arith, below_more}
+use Rattle.std.proofs.Common.{◌≡◌, ℕ, suc, ◌+◌, ◌<◌, ◌≤◌, List, sym, subst, add-one, arith, below_more}
 use Rattle.std.proofs.lemmas.Bool.{lt-ltb}
 use Rattle.lts.specs.Meaning.{Meaning, Lawful}
 use Rattle.theory.specs.Rounds.{all_of, Closed, Stable}

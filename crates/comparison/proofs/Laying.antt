@@ -1,14 +1,13 @@
 -- Laying out a system, step after step and state after state.
-use Rattle.std.proofs.Common.{◌≡◌, ℕ, zero, suc, ◌+◌, ◌-◌, ◌<◌, ◌≤◌, Bool, true, false, ◌≢◌, ◌⊎◌, List, [], ◌∷◌, ◌++◌, map, length, get_or, take, set, replicate, Some, sym, refl, ap, ◌∙◌, subst, ap₂, inl, inr, ⊎_elim, arith, length-set, below_more}
-use lib.ListN.{length-replicate}
+use Rattle.std.proofs.Common.{◌≡◌, ℕ, zero, suc, ◌+◌, ◌-◌, ◌<◌, ◌≤◌, Bool, true, false, ◌≢◌, List, [], ◌∷◌, ◌++◌, map, length, get_or, take, set, Some, sym, refl, ap, ◌∙◌, subst, ap₂, ⊎_elim, arith, length-set, below_more}
 use Rattle.std.specs.List.{slice_get, range_with_len}
 use Rattle.std.proofs.lemmas.List.FromFn.{map-range_with_len_more}
 use Rattle.std.proofs.lemmas.List.{get_or-set_same, get_or-set_other}
 use Rattle.std.proofs.lemmas.Bool.{not-false}
 use Rattle.lts.specs.Meaning.{Meaning, In}
 use Rattle.lts.specs.Laws.Member.{in_left, in_right, in_either}
-use Rattle.comparison.specs.Reach.{hits, holds, Put, Reached}
-use Rattle.comparison.specs.Layouts.{step_at, from, many, run, SameListed, Laid_out, Laying}
+use Rattle.comparison.specs.Reach.{hits, holds, Put}
+use Rattle.comparison.specs.Layouts.{from, many, run, SameListed, Laid_out, Laying}
 use Rattle.comparison.specs.declared.layout.Layout.{Layout}
 use Rattle.comparison.specs.declared.reach.Reach.{Reach}
 use Rattle.comparison.proofs.Pairs.{hits_in, take_listed}

@@ -1,5 +1,5 @@
 -- What is printed fits into 32 bytes.
-use Rattle.std.proofs.Common.{◌≡◌, ℕ, ◌+◌, ◌^◌, ◌<◌, ◌≤◌, List, [], ◌∷◌, ◌++◌, length, take, Some, None, Ok, Err, codes, decimal, Option, Result, ◌∙◌, arith, length-append, take_all}
+use Rattle.std.proofs.Common.{◌≡◌, ℕ, ◌^◌, ◌<◌, ◌≤◌, List, [], ◌∷◌, ◌++◌, length, take, Some, None, codes, decimal, Option, Result, ◌∙◌, arith, length-append, take_all}
 use Rattle.std.proofs.lemmas.Fmt.{length-decimal-le}
 use Rattle.refusals.specs.Texts.{refusal_text, place_text}
 use Rattle.refusals.specs.declared.Refusal.{Refusal}
@@ -12,7 +12,7 @@ use Rattle.shelves.specs.declared.fault.ShelfFault.TheVariants.{Slot, Taken, Emp
 use Rattle.commands.specs.Texts.{success_text, outcome_text, reply_text}
 use Rattle.commands.specs.declared.fault.ConsoleFault.{ConsoleFault}
 use Rattle.commands.specs.declared.outcome.Outcome.{Outcome}
-use Rattle.commands.specs.declared.outcome.Outcome.TheVariants.{Accepted, Same, Different}
+use Rattle.commands.specs.declared.outcome.Outcome.TheVariants.{Same, Different}
 use Rattle.commands.specs.declared.verb.Verb.{Verb}
 use Rattle.console.proofs.Places.{Near}
 

@@ -1,5 +1,5 @@
 -- A line is answered in one way.
-use Rattle.std.proofs.Common.{◌≡◌, ℕ, ◌⊎◌, List, [], ◌∷◌, ◌++◌, sym, refl, ap, ◌∙◌, subst, inl, inr, ⊎_elim}
+use Rattle.std.proofs.Common.{◌≡◌, ℕ, ◌⊎◌, List, [], ◌∷◌, sym, refl, ap, ◌∙◌, subst, inl, inr}
 use Rattle.refusals.specs.Texts.{refusal_text}
 use Rattle.accounts.proofs.Keeping.{kept}
 use Rattle.accounts.specs.Calls.{Event}
@@ -8,7 +8,7 @@ use Rattle.commands.specs.Faults.{of_console}
 use Rattle.commands.specs.Form.{Request, Form, Misfit}
 use Rattle.commands.specs.declared.fault.ConsoleFault.TheVariants.{Form as NoForm}
 use Rattle.console.specs.Handling.{Handles, misfits, renames, unread_filing, unread_submission, files, files_not, agrees, differs, submits_not, releases, releases_not, withdraws, withdraws_not}
-use Rattle.console.specs.Sessions.{LawfulCalls, Session, none, more}
+use Rattle.console.specs.Sessions.{LawfulCalls, none, more}
 use Rattle.console.specs.States.{State}
 use Rattle.console.specs.Theorems.{OneAnswer, OneState}
 use Rattle.console.proofs.Sessions.{session_run}

@@ -1,5 +1,5 @@
 -- What each way of a command is handled as.
-use Rattle.std.proofs.Common.{◌≡◌, ℕ, List, [], ◌∷◌, ◌++◌, Some, None, Ok, Err, codes, decimal, refl, ap, ◌∙◌, subst}
+use Rattle.std.proofs.Common.{◌≡◌, ℕ, List, [], ◌++◌, Some, None, Ok, Err, codes, decimal, refl, ap, ◌∙◌, subst}
 use Rattle.lts.specs.Map.{mapped}
 use Rattle.lts.specs.Meaning.{Meaning, Lawful}
 use Rattle.theory.specs.Formulas.{Formula, depth}
@@ -19,14 +19,14 @@ use Rattle.shelves.specs.Faults.{number_of}
 use Rattle.shelves.specs.Moves.{told, fault_answer, Weighed, Unweighed}
 use Rattle.shelves.specs.declared.fault.ShelfFault.{ShelfFault}
 use Rattle.shelves.specs.declared.fault.ShelfFault.TheVariants.{Slot, Taken, Empty, Pending, Steps, Room, Different as Differs, Nothing, Claims, Clearance}
-use Rattle.commands.specs.Form.{Form, file, submit, release, withdraw}
+use Rattle.commands.specs.Form.{file, submit, release, withdraw}
 use Rattle.commands.specs.Texts.{line_text}
 use Rattle.commands.specs.declared.fault.ConsoleFault.TheVariants.{Term, Shelf}
 use Rattle.commands.specs.declared.outcome.Outcome.TheVariants.{Accepted, Same, Different}
 use Rattle.commands.specs.declared.verb.Verb.TheVariants.{File, Submit, Release, Withdraw}
 use Rattle.console.specs.Answers.{Handled, Did}
-use Rattle.console.specs.Handling.{Means, Counted, submission, Handles, unread_filing, unread_submission, files, files_not, agrees, differs, submits_not, releases, releases_not, withdraws, withdraws_not}
-use Rattle.console.specs.States.{State, state}
+use Rattle.console.specs.Handling.{Means, submission, unread_filing, unread_submission, files, files_not, agrees, differs, submits_not, releases, releases_not, withdraws, withdraws_not}
+use Rattle.console.specs.States.{state}
 
 -- what is called different is not alike to the procedure in force
 unlike : {a : Account} {s l k : ℕ} {m : Meaning} {f : Formula} {a' : Account} → Does a (shelf.submit s m l k) (called_different f) a' → (x : Filled) × (a.slots s ≡ Some x) × (Alike x.force m → ⊥)

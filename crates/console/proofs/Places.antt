@@ -1,10 +1,9 @@
 -- The places that refusals tell are small.
-use Rattle.std.proofs.Common.{◌≡◌, ℕ, zero, suc, ◌+◌, ◌-◌, ◌<◌, ◌≤◌, Bool, true, false, cond, ltb, leb, List, [], ◌∷◌, length, Some, None, Option, subst, ⊎_elim, arith}
+use Rattle.std.proofs.Common.{◌≡◌, ℕ, zero, suc, ◌+◌, ◌-◌, ◌<◌, ◌≤◌, Bool, true, false, cond, leb, List, [], ◌∷◌, length, Some, None, Option, subst, ⊎_elim, arith}
 use Rattle.std.proofs.lemmas.Bool.{cases_lt, lt-ltb, le-ltb}
 use Rattle.terms.specs.Faults.{of_term}
 use Rattle.terms.specs.Scan.{Stand, before, behind, Move, acts, opens, joins, closes, misfits, move, at_end, by_move, scan, first_refusal}
 use Rattle.terms.specs.declared.fault.TermFault.{TermFault}
-use Rattle.terms.specs.declared.fault.TermFault.TheVariants.{Long, Misplaced, Early, Actions, Brackets}
 
 -- a place, where there is one, is at most n
 abbrev pub Near : ℕ → Option ℕ → Type 0

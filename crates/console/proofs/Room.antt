@@ -1,12 +1,12 @@
 -- A submission of the console has room enough.
-use Rattle.std.proofs.Common.{◌≡◌, ℕ, ◌+◌, ◌-◌, ◌*◌, ◌≤◌, Bool, true, false, cond, ◌||◌, ltb, List, get_or, is_some, Some, None, Option, sym, refl, ap, ◌∙◌, subst, arith}
+use Rattle.std.proofs.Common.{◌≡◌, ℕ, ◌+◌, ◌-◌, ◌*◌, ◌≤◌, Bool, true, false, cond, ltb, List, get_or, is_some, Some, None, Option, refl, arith}
 use Rattle.std.proofs.lemmas.Bool.{le-ltb, or_from}
 use Rattle.lts.specs.Copying.{total}
 use Rattle.lts.specs.Laws.Stored.{sound_lawful}
 use Rattle.lts.specs.Layout.{stored}
 use Rattle.lts.specs.Meaning.{Meaning, Lawful}
-use Rattle.accounts.specs.Account.{Account, Filled}
-use Rattle.accounts.specs.Calls.{in_slot, cramped, refused, refusal, Does, refuses}
+use Rattle.accounts.specs.Account.{Account}
+use Rattle.accounts.specs.Calls.{in_slot, cramped, refused, Does, refuses}
 use Rattle.accounts.proofs.Determined.{never}
 use Rattle.shelves.proofs.Viewing.{force_sound}
 use Rattle.shelves.specs.Standing.{account, filled, row_account, AllKept}

@@ -1,6 +1,5 @@
 -- Lines and the calls that they make.
 use Rattle.std.proofs.Common.{◌≡◌, ℕ, List, [], ◌∷◌, ◌++◌}
-use Rattle.accounts.specs.Account.{Account}
 use Rattle.accounts.specs.Calls.{Event, Run, start as new-shelf, more as one_more}
 use Rattle.accounts.specs.Law.{Law}
 use Rattle.accounts.proofs.Lasting.{lasting}

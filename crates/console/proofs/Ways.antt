@@ -1,5 +1,5 @@
 -- The ways that a line can go, by what it asks for.
-use Rattle.std.proofs.Common.{◌≡◌, ℕ, ◌≤◌, ◌⊎◌, List, [], ◌∷◌, ◌++◌, set, Some, None, codes, decimal, Option, sym, refl, ap, ◌∙◌, subst, inl, inr, arith, lit≤}
+use Rattle.std.proofs.Common.{◌≡◌, ℕ, List, [], ◌++◌, set, Some, None, codes, decimal, Option, sym, refl, ap, ◌∙◌, subst, inl, arith, lit≤}
 use Rattle.refusals.specs.Texts.{refusal_text}
 use Rattle.lts.specs.Joined.{joined}
 use Rattle.lts.specs.Laws.Joined.{joined_lawful}
@@ -8,7 +8,7 @@ use Rattle.lts.specs.Meaning.{Meaning, Lawful}
 use Rattle.theory.proofs.Relations.{lawful_inside}
 use Rattle.theory.proofs.Stability.{class_count, rounds_determined, all_closed}
 use Rattle.theory.specs.Formulas.{Formula, depth}
-use Rattle.theory.specs.Rounds.{Closed, all_of}
+use Rattle.theory.specs.Rounds.{all_of}
 use Rattle.terms.proofs.Complete.{text_put}
 use Rattle.terms.specs.Assembly.{Partial, Place, ahead, past, plus, start, feeds}
 use Rattle.terms.specs.Faults.{of_term}

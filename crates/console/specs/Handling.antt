@@ -17,7 +17,7 @@ use Rattle.terms.specs.declared.fault.TermFault.{TermFault}
 use Rattle.accounts.specs.Account.{Account, Filled}
 use Rattle.accounts.specs.Calls.{Call, file as filing, submit as submitting, claim as claiming, release as releasing, withdraw as withdrawing, Answer, accepted, called_same, called_different, cleared, refused, Does, Event}
 use Rattle.commands.specs.Faults.{of_console}
-use Rattle.commands.specs.Form.{Request, file, submit, release, withdraw, rename, Form, Misfit}
+use Rattle.commands.specs.Form.{file, submit, release, withdraw, rename, Form, Misfit}
 use Rattle.commands.specs.Texts.{line_text}
 use Rattle.commands.specs.declared.fault.ConsoleFault.TheVariants.{Form as NoForm}
 use Rattle.commands.specs.declared.verb.Verb.TheVariants.{File, Submit, Release, Withdraw}

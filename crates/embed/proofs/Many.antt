@@ -1,5 +1,5 @@
 -- Lines that are too many, whatever they are.
-use Rattle.std.proofs.Common.{◌≡◌, ℕ, ◌/◌, ◌<◌, true, ◌||◌, eqb, ltb, List, length, Some, sym, ap, subst, arith}
+use Rattle.std.proofs.Common.{◌≡◌, ℕ, ◌/◌, ◌<◌, true, ◌||◌, eqb, ltb, List, length, Some, arith}
 use Rattle.std.proofs.lemmas.Bool.{lt-ltb, or_right}
 use Rattle.formulas.specs.Faults.{first_fault}
 use Rattle.formulas.specs.declared.fault.EvaluationFault.TheVariants.{Count}

@@ -1,13 +1,12 @@
 -- Rows that a clearance is for.
-use Rattle.std.proofs.Common.{◌≡◌, ℕ, ◌<◌, ◌≤◌, Bool, true, false, cond, ◌&&◌, eqb, List, length, get_or, Some, None, Option, sym, refl, ap, ◌∙◌, subst, arith}
+use Rattle.std.proofs.Common.{◌≡◌, ℕ, ◌<◌, false, eqb, List, length, get_or, Some, None, Option, ap, subst, arith}
 use mathlib.Core.Logic.{∥∥₁_elim}
 use Rattle.std.proofs.lemmas.List.{get_or_past}
 use Rattle.std.proofs.lemmas.Bool.{and_right}
 use Rattle.lts.specs.Layout.{stored}
 use Rattle.lts.specs.declared.procedure.Procedure.{Procedure}
-use Rattle.accounts.specs.Account.{Filled, released, withdrawn}
-use Rattle.accounts.specs.Calls.{refusal, release, withdraw, clears, in_slot, is_latest}
-use Rattle.shelves.specs.Standing.{account, filled, row_account, stored_if, Bound, BoundIf, Claimable, AllKept, Keeps}
+use Rattle.accounts.specs.Calls.{clears, in_slot, is_latest}
+use Rattle.shelves.specs.Standing.{account, filled, row_account, stored_if, BoundIf, Claimable, AllKept, Keeps}
 use Rattle.shelves.specs.declared.row.Row.{Row}
 
 -- no clearance is for a slot above 7

@@ -1,16 +1,15 @@
 -- What a call finds and leaves in the rows.
-use Rattle.std.proofs.Common.{◌≡◌, ℕ, zero, suc, ◌<◌, ◌≤◌, Bool, true, false, cond, ltb, List, [], ◌∷◌, length, get_or, is_some, Some, None, Ok, Option, sym, refl, ap, ◌∙◌, subst, arith}
-use Rattle.std.proofs.lemmas.Bool.{lt-ltb, le-ltb}
+use Rattle.std.proofs.Common.{◌≡◌, ℕ, zero, suc, ◌≤◌, false, List, [], ◌∷◌, get_or, is_some, Some, None, Ok, Option, sym, refl, ap, subst, arith}
+use Rattle.std.proofs.lemmas.Bool.{le-ltb}
 use Rattle.lts.specs.Copying.{total}
 use Rattle.lts.specs.Layout.{Sound, stored}
 use Rattle.lts.specs.Meaning.{Meaning}
 use Rattle.lts.specs.declared.procedure.Procedure.{Procedure}
-use Rattle.accounts.specs.Account.{Account, Filled, new, fresh}
-use Rattle.accounts.specs.Calls.{Call, file, refusal, Run, start}
-use Rattle.accounts.specs.Law.{Law}
+use Rattle.accounts.specs.Account.{new, fresh}
+use Rattle.accounts.specs.Calls.{Run, start}
 use Rattle.theory.proofs.Relations.{related_reflexive}
 use Rattle.shelves.specs.Moves.{Filing}
-use Rattle.shelves.specs.Standing.{account, row_account, AllKept, Reached, Keeps}
+use Rattle.shelves.specs.Standing.{account, row_account, AllKept, Reached}
 use Rattle.shelves.specs.declared.row.Row.{Row}
 
 -- empty slots

@@ -1,19 +1,16 @@
 -- A submission that reaches the comparison.
-use Rattle.std.proofs.Common.{◌≡◌, ℕ, ◌+◌, ◌-◌, ◌*◌, ◌<◌, ◌≤◌, Bool, true, false, cond, ◌||◌, ltb, ◌⊎◌, List, length, get_or, take, is_some, Some, None, Ok, Err, Option, Result, sym, refl, ap, ◌∙◌, subst, inl, inr, ⊎_elim, arith}
+use Rattle.std.proofs.Common.{◌≡◌, ℕ, ◌+◌, ◌-◌, ◌*◌, ◌<◌, true, false, cond, ltb, List, length, is_some, Some, None, Ok, Err, Option, Result, sym, refl, ap, ◌∙◌, subst, inl, inr, ⊎_elim, arith}
 use Rattle.std.proofs.lemmas.Bool.{lt-ltb, le-ltb, or_left, or_right, or_from, cases_lt}
 use Rattle.lts.specs.Copying.{total}
 use Rattle.lts.specs.Laws.Stored.{sound_lawful}
-use Rattle.lts.specs.Layout.{Sound, stored}
+use Rattle.lts.specs.Layout.{stored}
 use Rattle.lts.specs.Meaning.{Meaning, Lawful}
 use Rattle.lts.specs.declared.procedure.Procedure.{Procedure}
-use Rattle.theory.specs.Formulas.{Formula, depth, Separates}
-use Rattle.formulas.specs.Lines.{formula}
 use Rattle.formulas.specs.declared.line.Line.{Line}
 use Rattle.comparison.specs.Compared.{Short, Reported, Distinguished, Judged}
 use Rattle.comparison.specs.declared.report.Report.{Report}
-use Rattle.comparison.specs.declared.report.Verdict.{Verdict}
 use Rattle.comparison.specs.declared.report.Verdict.TheVariants.{Same, Different}
-use Rattle.accounts.specs.Account.{Account, Filled, Alike, with_slot, with_pending}
+use Rattle.accounts.specs.Account.{Account, Alike, with_slot, with_pending}
 use Rattle.accounts.specs.Calls.{submit, called_same, called_different, refused, refusal, cramped, Does, refuses, agrees, differs}
 use Rattle.accounts.proofs.Keeping.{alike_through}
 use Rattle.shelves.specs.Moves.{Admitted, told, reports, Moved, submit_answer, Submitted}

@@ -1,5 +1,5 @@
 -- The procedures of a shelf's rows can be viewed.
-use Rattle.std.proofs.Common.{◌≡◌, ℕ, ◌+◌, ◌<◌, ◌≤◌, List, get_or, Some, None, Option}
+use Rattle.std.proofs.Common.{◌≡◌, ℕ, List, get_or, Some, None, Option}
 use native.Mathlib.Bridge.{le_prop}
 use mathlib.Core.Logic.{∥∥₁_elim}
 use Rattle.lts.specs.Layout.{Sound}

@@ -1,5 +1,5 @@
 -- A list of calls run on a new shelf.
-use Rattle.std.specs.Prelude.{◌≡◌, ℕ, ◌<◌, ◌≤◌, min, false, List, [], ◌∷◌, map, reverse, length, take, drop, Some, None, Option}
+use Rattle.std.specs.Prelude.{◌≡◌, ℕ, ◌<◌, ◌≤◌, min, false, List, map, reverse, length, take, drop, Some, None, Option}
 use Rattle.lts.specs.Meaning.{Meaning}
 use Rattle.theory.specs.Formulas.{depth}
 use Rattle.accounts.specs.Account.{Account}

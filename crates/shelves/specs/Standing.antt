@@ -1,5 +1,5 @@
 -- What a shelf stands for.
-use Rattle.std.specs.Prelude.{◌≡◌, ℕ, ◌<◌, List, length, Some, None, Option, slice_index_or}
+use Rattle.std.specs.Prelude.{◌≡◌, ℕ, List, Some, None, Option, slice_index_or}
 use Rattle.lts.specs.Layout.{Sound, stored}
 use Rattle.lts.specs.Meaning.{Meaning}
 use Rattle.lts.specs.declared.procedure.Procedure.{Procedure}

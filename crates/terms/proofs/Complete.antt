@@ -1,9 +1,8 @@
 -- What a text spells is put together when it is read.
-use Rattle.std.proofs.Common.{◌≡◌, ℕ, suc, ◌+◌, true, List, [], ◌∷◌, ◌++◌, Some, None, Option, sym, refl, ap, ◌∙◌, subst, append_assoc, append-nil, add_assoc, zero-add, add-one, arith}
-use Rattle.terms.specs.Syntax.{Tree, leaf, choice, sequence, size}
-use Rattle.terms.specs.Grammar.{Level, sum, product, operand, Spells, action, bracket, one_operand, more_operands, one_product, more_products, Letter}
-use Rattle.terms.specs.Scan.{is_action}
-use Rattle.terms.specs.Assembly.{Place, ahead, past, Opened, Partial, start, plus, times, action_of, feed, feeds, then_feeds}
+use Rattle.std.proofs.Common.{◌≡◌, ℕ, ◌+◌, List, [], ◌∷◌, ◌++◌, Some, None, Option, refl, ap, ◌∙◌, append_assoc, append-nil, add_assoc, zero-add, add-one}
+use Rattle.terms.specs.Syntax.{Tree, sequence, size}
+use Rattle.terms.specs.Grammar.{Level, sum, product, operand, Spells, action, bracket, one_operand, more_operands, one_product, more_products}
+use Rattle.terms.specs.Assembly.{ahead, past, Opened, start, plus, times, feeds}
 use Rattle.terms.proofs.Feeding.{at}
 use Rattle.terms.proofs.Letters.{letter_action}
 

@@ -1,12 +1,12 @@
 -- The end of a text.
-use Rattle.std.proofs.Common.{◌≡◌, ℕ, zero, suc, ◌+◌, ◌*◌, ◌<◌, ◌≤◌, true, List, [], ◌∷◌, length, take, Some, sym, refl, ap, ◌∙◌, subst, arith}
+use Rattle.std.proofs.Common.{◌≡◌, ℕ, zero, suc, ◌+◌, ◌<◌, ◌≤◌, true, List, [], length, take, Some, sym, refl, ap, ◌∙◌, arith}
 use Rattle.std.specs.List.{slice_get}
 use Rattle.std.proofs.lemmas.List.{get_or-take, length-take-le}
 use Rattle.terms.specs.Syntax.{Tree, size}
 use Rattle.terms.specs.Nodes.{numbered}
 use Rattle.terms.specs.Graph.{contents, leads}
 use Rattle.terms.specs.Lists.{run_of, steps_of, same_steps, Stands, Lays}
-use Rattle.terms.specs.Assembly.{Place, past, Partial, plus}
+use Rattle.terms.specs.Assembly.{past, plus}
 use Rattle.terms.specs.Reader.{stacked, partial, known, place, opened, one, here, at, Sound, Joined, Counted, scanned}
 use Rattle.terms.specs.Scan.{at_end, behind}
 use Rattle.terms.specs.declared.fault.TermFault.TheVariants.{Early}

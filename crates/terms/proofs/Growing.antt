@@ -1,8 +1,8 @@
 -- What a reader keeps while nodes are added.
-use Rattle.std.proofs.Common.{◌≡◌, ℕ, zero, suc, ◌+◌, ◌<◌, ◌≤◌, List, [], ◌∷◌, Some, None, Option, sym, refl, ap, ◌∙◌, subst, arith}
+use Rattle.std.proofs.Common.{◌≡◌, ℕ, ◌<◌, ◌≤◌, List, [], ◌∷◌, Some, None, Option, refl, ap, ◌∙◌, arith}
 use Rattle.terms.specs.Syntax.{Tree}
 use Rattle.terms.specs.Assembly.{Place, Opened, Partial}
-use Rattle.terms.specs.Reader.{stacked, known, opened, Below, Framed, one, weight, at, Holds, Grown}
+use Rattle.terms.specs.Reader.{stacked, known, opened, Below, Framed, weight, at, Holds, Grown}
 use Rattle.terms.specs.declared.term.reader.Frame.{Frame}
 use Rattle.terms.specs.declared.term.reader.Reader.{Reader}
 

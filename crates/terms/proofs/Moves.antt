@@ -1,14 +1,14 @@
 -- Each move of the reader, held against the term put together so far.
-use Rattle.std.proofs.Common.{◌≡◌, ℕ, zero, suc, ◌+◌, ◌-◌, ◌*◌, ◌<◌, ◌≤◌, ◌≢◌, List, [], ◌∷◌, length, get_or, set, Some, None, Option, sym, refl, ap, ◌∙◌, subst, add-one, arith, length-set}
+use Rattle.std.proofs.Common.{◌≡◌, ℕ, zero, suc, ◌+◌, ◌-◌, ◌*◌, ◌<◌, ◌≤◌, ◌≢◌, List, ◌∷◌, length, get_or, set, Some, None, Option, sym, refl, ap, ◌∙◌, subst, add-one, arith, length-set}
 use Rattle.std.proofs.lemmas.List.{get_or-set_same, get_or-set_other}
-use Rattle.terms.specs.Syntax.{Tree, leaf}
-use Rattle.terms.specs.Assembly.{Place, ahead, past, Partial, plus, times, closed}
-use Rattle.terms.specs.Reader.{stacked, partial, Below, Framed, Placed, known, opened, one, here, weight, at, Table, Holds, Sound, Grown, Joined}
+use Rattle.terms.specs.Syntax.{leaf}
+use Rattle.terms.specs.Assembly.{ahead, past, Partial, plus, times, closed}
+use Rattle.terms.specs.Reader.{stacked, partial, Below, Framed, Placed, known, opened, one, here, weight, at, Table, Holds, Sound, Joined}
 use Rattle.terms.specs.declared.term.reader.Frame.{Frame}
 use Rattle.terms.specs.declared.term.reader.Reader.{Reader}
 use Rattle.terms.specs.declared.term.reader.Position.{Position}
 use Rattle.terms.specs.declared.term.reader.Position.TheVariants.{Before, Behind}
-use Rattle.terms.proofs.Growing.{same_partial, below_more, known_same, grown_holds, grown_brackets, grown_weight, grown_sum, grown_grown}
+use Rattle.terms.proofs.Growing.{same_partial, known_same, grown_holds, grown_brackets, grown_weight, grown_sum, grown_grown}
 
 -- the reader with some fields changed
 abbrev with_actions : Reader → ℕ → Reader

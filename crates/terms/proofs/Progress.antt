@@ -1,16 +1,16 @@
 -- Reading a text from its front: what holds after each byte, and at the end.
-use Rattle.std.proofs.Common.{◌≡◌, ℕ, zero, suc, ◌+◌, ◌<◌, ◌≤◌, Bool, true, false, cond, ◌&&◌, eqb, ltb, leb, ◌⊎◌, List, [], ◌∷◌, ◌++◌, length, get_or, take, drop, IfOk, Some, None, Ok, Err, Option, Result, sym, refl, ap, ◌∙◌, subst, inl, inr, ⊎_elim, arith, MatchResult}
+use Rattle.std.proofs.Common.{◌≡◌, ℕ, suc, ◌+◌, ◌<◌, ◌≤◌, true, eqb, leb, List, [], ◌∷◌, ◌++◌, length, get_or, take, drop, IfOk, Some, None, Ok, Err, Option, Result, sym, refl, ap, ◌∙◌, subst, ⊎_elim, arith, MatchResult}
 use Rattle.std.proofs.lemmas.List.{take_more, drop_more, take_all, drop_all}
 use Rattle.std.proofs.lemmas.Bool.{le-ltb, and_from, le-leb, eq-eqb}
 use Rattle.terms.specs.declared.fault.TermFault.{TermFault}
 use Rattle.terms.specs.declared.term.Term.{Term}
 use Rattle.terms.specs.declared.term.reader.Reader.{Reader}
 use Rattle.terms.specs.Faults.{TooLarge}
-use Rattle.terms.specs.Syntax.{Tree, leaf, choice, sequence, size}
+use Rattle.terms.specs.Syntax.{Tree, size}
 use Rattle.terms.specs.Grammar.{Level, Spells, sum, action, bracket, one_operand, more_operands, one_product, more_products}
 use Rattle.terms.specs.Graph.{ByRules, graph}
 use Rattle.terms.specs.Nodes.{numbered}
-use Rattle.terms.specs.Scan.{scan, first_refusal, before}
+use Rattle.terms.specs.Scan.{first_refusal}
 use Rattle.terms.specs.Assembly.{Partial, start, past, plus, feed, feeds, then_feeds}
 use Rattle.terms.specs.Reader.{partial, scanned, Sound, Counted, Finished}
 use Rattle.terms.specs.Reading.{refusal_of}

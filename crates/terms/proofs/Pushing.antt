@@ -1,10 +1,10 @@
 -- One node more in a table of nodes.
-use Rattle.std.proofs.Common.{◌≡◌, ℕ, zero, suc, ◌+◌, ◌<◌, ◌≤◌, min, Bool, true, ◌≢◌, List, [], ◌∷◌, ◌++◌, length, get_or, take, set, sym, refl, ap, ◌∙◌, subst, ⊎_elim, add-zero, arith, length-append, length-set}
+use Rattle.std.proofs.Common.{◌≡◌, ℕ, ◌+◌, ◌<◌, true, List, [], ◌∷◌, ◌++◌, length, get_or, take, set, sym, refl, ap, ◌∙◌, ⊎_elim, add-zero, arith, length-set}
 use Rattle.std.proofs.lemmas.List.{length_push, length-take-le, take_more_set, get_or_append_left, get_or_push, get_or-set_same, get_or-set_other}
 use Rattle.std.proofs.lemmas.Bool.{cases_eq}
 use Rattle.terms.specs.Syntax.{Tree, leaf}
 use Rattle.terms.specs.Nodes.{make, grow, tree, lower}
-use Rattle.terms.specs.Reader.{at, Table, Grown, Joined}
+use Rattle.terms.specs.Reader.{Table, Joined}
 use Rattle.terms.specs.declared.node.Node.{Node}
 use Rattle.terms.specs.declared.node.Node.TheVariants.{Action}
 use Rattle.terms.specs.declared.term.reader.Reader.{Reader}

@@ -1,13 +1,12 @@
 -- The first refusal of a text, by the term put together so far.
-use Rattle.std.proofs.Common.{◌≡◌, ℕ, zero, suc, ◌+◌, ◌-◌, ◌<◌, ◌≤◌, Bool, true, false, cond, ◌&&◌, ◌||◌, eqb, ltb, leb, ◌⊎◌, List, [], ◌∷◌, ◌++◌, length, Some, None, Option, sym, refl, ap, ◌∙◌, subst, inl, inr, ⊎_elim, append-nil, add-zero, add-one, arith}
+use Rattle.std.proofs.Common.{◌≡◌, ℕ, suc, ◌+◌, ◌-◌, ◌≤◌, ◌⊎◌, List, [], ◌∷◌, length, Some, None, Option, refl, ap, ◌∙◌, inl, inr, ⊎_elim, add-zero, add-one, arith}
 use Rattle.std.proofs.lemmas.Bool.{le-leb, lt-leb, lt-ltb, cases_lt}
 use Rattle.terms.specs.declared.fault.TermFault.{TermFault}
 use Rattle.terms.specs.declared.fault.TermFault.TheVariants.{Actions, Brackets}
 use Rattle.terms.specs.Faults.{TooLarge}
-use Rattle.terms.specs.Syntax.{Tree, size}
+use Rattle.terms.specs.Syntax.{Tree}
 use Rattle.terms.specs.Grammar.{Spells, sum}
-use Rattle.terms.specs.Scan.{scan, is_action}
-use Rattle.terms.specs.Assembly.{Place, ahead, past, Opened, Partial, start, plus, stand_of, feed, feeds, then_feeds}
+use Rattle.terms.specs.Assembly.{Partial, start, feed, feeds, then_feeds}
 use Rattle.terms.specs.Reader.{scanned}
 use Rattle.terms.proofs.Feeding.{Fed, acted, opening, adding, going_on, closing, fed}
 use Rattle.terms.proofs.Complete.{text_put}

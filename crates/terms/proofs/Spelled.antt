@@ -1,8 +1,7 @@
 -- What is put together is what the text spells.
-use Rattle.std.proofs.Common.{◌≡◌, ℕ, suc, ◌+◌, Bool, true, false, eqb, List, [], ◌∷◌, ◌++◌, Some, None, Option, sym, refl, ap, ◌∙◌, subst, append_assoc, append-nil, add_assoc, add-one, arith}
-use Rattle.std.proofs.lemmas.Bool.{eqb-true}
-use Rattle.terms.specs.Syntax.{Tree, leaf, choice, sequence, size}
-use Rattle.terms.specs.Grammar.{Level, sum, product, operand, Spells, action, bracket, one_operand, more_operands, one_product, more_products, Letter}
+use Rattle.std.proofs.Common.{◌≡◌, ℕ, ◌+◌, true, List, [], ◌∷◌, ◌++◌, Some, None, Option, sym, refl, ◌∙◌, subst, append_assoc, append-nil, add_assoc, add-one, arith}
+use Rattle.terms.specs.Syntax.{Tree, leaf, size}
+use Rattle.terms.specs.Grammar.{Level, sum, product, operand, Spells, action, bracket, one_operand, more_operands, one_product, more_products}
 use Rattle.terms.specs.Scan.{is_action}
 use Rattle.terms.specs.Assembly.{Place, ahead, past, Opened, Partial, start, plus, times, action_of, feed, feeds, then_feeds}
 use Rattle.terms.proofs.Letters.{action_letter}

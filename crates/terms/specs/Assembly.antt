@@ -1,5 +1,5 @@
 -- How a term is put together while its text is read, whatever its size.
-use Rattle.std.specs.Prelude.{ℕ, zero, suc, ◌+◌, ◌-◌, Bool, true, false, cond, List, [], ◌∷◌, length, Some, None, Option, ◌==◌, nat_le}
+use Rattle.std.specs.Prelude.{ℕ, ◌+◌, ◌-◌, cond, List, [], ◌∷◌, Some, None, Option, ◌==◌, nat_le}
 use Rattle.terms.specs.Syntax.{Tree, leaf, choice, sequence}
 use Rattle.terms.specs.Scan.{Stand, before, behind, is_action}
 

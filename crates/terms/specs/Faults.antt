@@ -1,5 +1,5 @@
 -- What each refusal of a term tells.
-use Rattle.std.specs.Prelude.{ℕ, Some}
+use Rattle.std.specs.Prelude.{Some}
 use Rattle.refusals.specs.declared.Refusal.{Refusal}
 use Rattle.refusals.specs.declared.Layer.TheVariants.{Term}
 use Rattle.terms.specs.declared.fault.TermFault.{TermFault}

@@ -1,5 +1,5 @@
 -- The graph of a term: state 0 is the whole term, state i what remains after the i-th action written.
-use Rattle.std.specs.Prelude.{◌≡◌, ℕ, suc, ◌+◌, ◌<◌, ◌≤◌, Bool, true, false, List, [], ◌∷◌, ◌++◌, map, Some, None, Decides, Option}
+use Rattle.std.specs.Prelude.{◌≡◌, ℕ, ◌+◌, ◌<◌, Bool, true, false, List, [], ◌∷◌, ◌++◌, map, Some, None, Decides, Option}
 use Rattle.std.specs.List.{slice_get}
 use Rattle.lts.specs.Meaning.{Meaning, In}
 use Rattle.terms.specs.Syntax.{Tree, leaf, choice, sequence, size, Rest, done, left}

@@ -1,5 +1,5 @@
 -- What a table of nodes stands for: each node's children stand before it.
-use Rattle.std.specs.Prelude.{ℕ, zero, suc, ◌+◌, ◌<◌, ◌≤◌, Bool, true, false, ◌&&◌, List, [], ◌∷◌, ◌++◌, length, take, ◌==◌, nat_le, nat_lt, slice_index_or}
+use Rattle.std.specs.Prelude.{ℕ, suc, ◌+◌, Bool, true, ◌&&◌, List, [], ◌∷◌, ◌++◌, take, ◌==◌, nat_le, nat_lt, slice_index_or}
 use Rattle.terms.specs.Syntax.{Tree, leaf, choice, sequence, size}
 use Rattle.terms.specs.declared.node.Node.{Node}
 use Rattle.terms.specs.declared.node.Node.TheVariants.{Action, Choice, Sequence}

@@ -1,5 +1,5 @@
 -- What a reader holds: the term put together so far.
-use Rattle.std.specs.Prelude.{◌≡◌, ℕ, zero, suc, ◌+◌, ◌*◌, ◌<◌, ◌≤◌, Bool, true, false, List, [], ◌∷◌, length, Some, None, Ok, Err, Option, Result, slice_index_or}
+use Rattle.std.specs.Prelude.{◌≡◌, ℕ, zero, suc, ◌+◌, ◌*◌, ◌<◌, ◌≤◌, true, List, [], ◌∷◌, length, Some, None, Ok, Err, Option, Result, slice_index_or}
 use Rattle.terms.specs.Syntax.{Tree, leaf, size}
 use Rattle.terms.specs.Nodes.{tree, lower, numbered}
 use Rattle.terms.specs.Scan.{scan}

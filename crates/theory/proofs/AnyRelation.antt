@@ -1,5 +1,5 @@
 -- What a bisimulation of any kind relates, one that is given by a test relates too.
-use Rattle.std.proofs.Common.{◌≡◌, ℕ, ◌+◌, ◌<◌, refl, zero-add, arith}
+use Rattle.std.proofs.Common.{ℕ, ◌+◌, ◌<◌, refl, zero-add, arith}
 use Rattle.std.proofs.lemmas.Bool.{lt-ltb}
 use Rattle.lts.specs.Meaning.{Meaning}
 use Rattle.lts.specs.Joined.{joined}

@@ -1,4 +1,4 @@
-use Rattle.std.proofs.Common.{ℕ, ◌+◌, ◌-◌, ◌<◌, ◌≤◌, List, length, subst, arith}
+use Rattle.std.proofs.Common.{ℕ, ◌-◌, ◌≤◌, List, length, subst, arith}
 use Rattle.lts.specs.Laws.Member.{nth_missing, listed_action, listed_target}
 use Rattle.comparison.specs.Layouts.{run, SameListed}
 use Rattle.comparison.proofs.Laying.{lay_new, lay_old, close_state}

@@ -1,4 +1,4 @@
-use Rattle.std.proofs.Common.{refl, arith}
+use Rattle.std.proofs.Common.{arith}
 use Rattle.comparison.specs.Layouts.{laid}
 use Rattle.comparison.specs.Marks.{written}
 use Rattle.comparison.proofs.Transfer.{compares_same, laid_same, laid_room, laid_acts, laid_aims}

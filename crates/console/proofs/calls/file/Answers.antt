@@ -2,7 +2,6 @@ use Rattle.std.proofs.Common.{sym, lit≤}
 use Rattle.std.proofs.lemmas.Result.{err_from_is_err_and}
 use Rattle.lts.specs.Map.{mapped}
 use Rattle.lts.specs.Laws.Mapped.{mapped_lawful}
-use Rattle.lts.specs.Meaning.{Lawful}
 use Rattle.terms.specs.Graph.{graph}
 use Rattle.terms.specs.Laws.Lawful.{term_lawful}
 use Rattle.terms.specs.Terms.{tree_of}

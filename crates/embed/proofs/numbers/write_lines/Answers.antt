@@ -1,4 +1,4 @@
-use Rattle.std.proofs.Common.{◌≡◌, ◌*◌, ◌++◌, length, get_or, take, drop, refl, subst, arith}
+use Rattle.std.proofs.Common.{◌≡◌, ◌*◌, ◌++◌, length, get_or, drop, refl, subst, arith}
 use Rattle.std.proofs.lemmas.List.{take_all}
 use Rattle.formulas.specs.declared.line.Line.TheVariants.{True}
 use Rattle.embed.specs.Numbers.{numbers_of}

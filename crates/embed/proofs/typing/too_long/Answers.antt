@@ -1,4 +1,4 @@
-use Rattle.std.proofs.Common.{◌≡◌, ◌+◌, ◌++◌, length, drop, codes, refl, ap, ◌∙◌, arith}
+use Rattle.std.proofs.Common.{◌≡◌, ◌+◌, ◌++◌, length, drop, codes, ap, ◌∙◌, arith}
 use Rattle.embed.proofs.Sessions.{too_long_line}
 use Rattle.embed.proofs.typing.too_long.Goals as goal
 

@@ -1,4 +1,4 @@
-use Rattle.std.proofs.Common.{◌<◌, map, length, refl, arith}
+use Rattle.std.proofs.Common.{refl, arith}
 use lib.ListN.{length-map}
 use Rattle.shelves.specs.Runs.{call_of}
 use Rattle.shelves.proofs.Running.{follows_none, through_more, through_all}

@@ -1,4 +1,4 @@
-use Rattle.std.proofs.Common.{[], ◌∷◌, ◌++◌, codes, decimal}
+use Rattle.std.proofs.Common.{◌++◌, codes, decimal}
 use Rattle.commands.specs.Outputs.{written}
 use Rattle.commands.proofs.Writing.{adds_then}
 use Rattle.commands.proofs.output.Output.success.Goals as goal

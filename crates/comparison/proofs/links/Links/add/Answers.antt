@@ -1,4 +1,3 @@
-use Rattle.std.proofs.Common.{◌≡◌, sym, subst}
 use Rattle.comparison.proofs.Linking.{add_first, add_later}
 use Rattle.comparison.proofs.links.Links.add.Goals as goal
 use Rattle.comparison.proofs.links.Links.add.Goals.{then-self-c-eq-NONE, else-self-c-eq-NONE}

@@ -1,4 +1,4 @@
-use Rattle.std.proofs.Common.{◌≡◌, ℕ, ◌+◌, ◌<◌, ◌≤◌, get_or, sym, refl, subst, arith}
+use Rattle.std.proofs.Common.{ℕ, ◌+◌, ◌<◌, get_or, refl, subst, arith}
 use Rattle.comparison.specs.Reach.{holds}
 use Rattle.comparison.specs.Links.{Jump}
 use Rattle.comparison.proofs.Linking.{arrive, jump_later, head_behind}

@@ -1,6 +1,6 @@
 use mathlib.Core.Logic.{∥∥₁_map}
 use Rattle.std.proofs.Common.{subst}
-use Rattle.commands.specs.Form.{Form, file, submit, release, withdraw, rename}
+use Rattle.commands.specs.Form.{Form, file, submit, release, withdraw}
 use Rattle.commands.specs.Reading.{asked}
 use Rattle.commands.specs.declared.verb.Verb.TheVariants.{File, Submit, Release, Withdraw}
 use Rattle.console.proofs.Replies.{replied, unfit, no_action, renamed, map_told}

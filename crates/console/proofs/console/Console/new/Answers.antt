@@ -1,8 +1,7 @@
 use Rattle.std.proofs.Common.{[], sym, subst}
 use Rattle.lts.specs.Map.{identity}
-use Rattle.accounts.specs.Account.{new}
 use Rattle.shelves.specs.Moves.{account_of}
-use Rattle.console.specs.Sessions.{Session, none, Reached}
+use Rattle.console.specs.Sessions.{none, Reached}
 use Rattle.console.proofs.console.Console.new.Goals as goal
 
 pub invariant_of-result : goal.invariant_of-result

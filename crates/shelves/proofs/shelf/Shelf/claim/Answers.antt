@@ -1,8 +1,8 @@
-use Rattle.std.proofs.Common.{◌+◌, Some, sym, refl, ap}
+use Rattle.std.proofs.Common.{◌+◌, refl}
 use Rattle.std.proofs.lemmas.Result.{err_from_is_err_and}
 use Rattle.accounts.specs.Account.{with_claim}
 use Rattle.accounts.specs.Calls.{claim, cleared, refuses, claims}
-use Rattle.shelves.specs.Standing.{account, filled}
+use Rattle.shelves.specs.Standing.{filled}
 use Rattle.shelves.proofs.Moving.{moves, put_does, put_ghost, claimed_keeps, claimed_means, slot_of}
 use Rattle.shelves.proofs.shelf.Shelf.claim.Goals as goal
 

@@ -1,4 +1,3 @@
-use Rattle.std.proofs.Common.{sym}
 use Rattle.shelves.proofs.Clearing.{past_slot, never_claimed}
 use Rattle.shelves.proofs.shelf.Shelf.cleared.Goals as goal
 

@@ -2,7 +2,7 @@ use Rattle.std.proofs.Common.{refl}
 use Rattle.lts.specs.Layout.{stored}
 use Rattle.accounts.specs.Account.{released}
 use Rattle.accounts.specs.Calls.{release, accepted, refuses, releases}
-use Rattle.shelves.specs.Standing.{account, filled}
+use Rattle.shelves.specs.Standing.{filled}
 use Rattle.shelves.proofs.Clearing.{with_force, force_keeps, pending_means}
 use Rattle.shelves.proofs.Moving.{moves, put_does, put_ghost, slot_of}
 use Rattle.shelves.proofs.shelf.Shelf.release.Goals as goal

@@ -1,4 +1,4 @@
-use Rattle.std.proofs.Common.{length, refl}
+use Rattle.std.proofs.Common.{length}
 use Rattle.std.proofs.lemmas.Result.{err_from_is_err_and}
 use Rattle.accounts.specs.Account.{with_pending}
 use Rattle.accounts.specs.Calls.{submit, called_same}

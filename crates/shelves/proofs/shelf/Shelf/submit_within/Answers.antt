@@ -1,4 +1,4 @@
-use Rattle.std.proofs.Common.{arith, rules}
+use Rattle.std.proofs.Common.{rules}
 use Rattle.shelves.proofs.Running.{same_performed, unlike_performed}
 use Rattle.shelves.proofs.shelf.Shelf.submit_within.Goals as goal
 

@@ -1,7 +1,7 @@
 use Rattle.std.proofs.Common.{refl}
 use Rattle.accounts.specs.Account.{withdrawn}
 use Rattle.accounts.specs.Calls.{withdraw, accepted, refuses, withdraws}
-use Rattle.shelves.specs.Standing.{account, filled}
+use Rattle.shelves.specs.Standing.{filled}
 use Rattle.shelves.proofs.Clearing.{without_pending, without_keeps}
 use Rattle.shelves.proofs.Moving.{moves, put_does, put_ghost, slot_of}
 use Rattle.shelves.proofs.shelf.Shelf.withdraw.Goals as goal

@@ -1,6 +1,6 @@
-use Rattle.std.proofs.Common.{◌≡◌, length, sym, subst, arith}
+use Rattle.std.proofs.Common.{◌≡◌, length, subst, arith}
 use Rattle.std.proofs.lemmas.Result.{err_from_is_err_and}
-use Rattle.terms.proofs.Progress.{Progress, Promised, progress_more, progress_stop, progress_counted, refused_promised, finished_promised}
+use Rattle.terms.proofs.Progress.{Progress, progress_more, progress_stop, progress_counted, refused_promised, finished_promised}
 use Rattle.terms.proofs.term.Term.read.Goals as goal
 
 pub returns-in_err-feed : goal.returns-in_err-feed
