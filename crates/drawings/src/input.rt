@@ -1,6 +1,6 @@
 // An input drawn.
 ghost use Rattle.std.specs.Prelude.{IfOk, string_bytes};
-ghost use Rattle.drawings.specs.Answers.{Drawn};
+ghost use Rattle.drawings.specs.Answers.{InputDrawn};
 
 use crate::form::Form;
 use crate::procedure::draw;
@@ -10,7 +10,7 @@ use std::alloc::{AllocError, Global};
 
 // The drawing of the procedure that the input denotes, or the line that tells its refusal.
 pub fn draw_input(heap: Global, form: Form, input: Input<'_>) -> Result<String, AllocError>
-    ensures { IfOk result (λ t. Drawn form input.entry (string_bytes t)) }
+    ensures { IfOk result (λ t. InputDrawn form input.entry (string_bytes t)) }
 {
     match Parsed::read(input) {
         Ok(procedure) => draw(heap, form, &procedure),

@@ -5,7 +5,10 @@
 pub mod form;
 pub mod input;
 pub mod procedure;
+pub mod term;
 
 pub use form::Form;
 pub use input::draw_input;
+pub use lines::{split_at_byte, split_line};
 pub use procedure::{ActionName, draw};
+pub use term::draw_term;

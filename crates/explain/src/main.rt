@@ -2,7 +2,7 @@
 
 #![tactic(auto)]
 
-use explanations::explain;
+use explanations::explain_given;
 use lines::{split_at_byte, split_line};
 use programs::{Answers, fetch};
 use std::io::Read;
@@ -24,7 +24,7 @@ fn explain_pair(
         answers.miss(rt, right);
     }
     if let (Some(p), Some(q)) = (p, q) {
-        let answer = explain(rt.alloc(), p.given(), q.given())?;
+        let answer = explain_given(rt.alloc(), p.given(), q.given())?;
         answers.tell(answer.as_str())?;
     }
     Ok(())

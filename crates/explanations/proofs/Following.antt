@@ -13,7 +13,7 @@ use Rattle.formulas.specs.Faults.{first_fault}
 use Rattle.formulas.proofs.Rows.{not_refused}
 use Rattle.formulas.specs.Evaluation.{Marks}
 use Rattle.formulas.specs.Lines.{Wellformed, formula}
-use Rattle.explanations.specs.Ways.{first_of, lead, First, FirstMarked, Leads, Marked, Way, offset_text, offsets_text, move_text, moves_text}
+use Rattle.explanations.specs.Ways.{first_of, lead, First, FirstMarked, Leads, Marked, Way, offset_text, way_text, move_text, moves_text}
 use Rattle.listings.specs.Offsets.{action_offset}
 use Rattle.explanations.proofs.Spelling.{is_true, is_end, is_not, is_both, is_step}
 
@@ -134,10 +134,10 @@ not_refused_at_start m lawful lines i room fault w f l r e =
     omega arith
 
 -- one offset more is told
-pub offset_more : (text : List ℕ) (steps : List (ℕ × ℕ)) (k : ℕ) (first out out' : List ℕ) → k < length steps → out ≡ first ++ offsets_text text (take k steps) → out' ≡ out ++ offset_text (get_or steps k (0, 0)).0 (action_offset text (get_or steps k (0, 0)).1) → out' ≡ first ++ offsets_text text (take (k + 1) steps)
+pub offset_more : (text : List ℕ) (steps : List (ℕ × ℕ)) (k : ℕ) (first out out' : List ℕ) → k < length steps → out ≡ first ++ way_text text (take k steps) → out' ≡ out ++ offset_text (get_or steps k (0, 0)).0 (action_offset text (get_or steps k (0, 0)).1) → out' ≡ first ++ way_text text (take (k + 1) steps)
 offset_more text steps k first out out' h e f =
     let tell : ℕ × ℕ → List ℕ = λ step. offset_text step.0 (action_offset text step.1) in
-    f ∙ (ap (λ z. z ++ tell (get_or steps k (0, 0))) e ∙ (flat_map_more tell first (take k steps) (get_or steps k (0, 0)) ∙ ap (λ z. first ++ offsets_text text z) (sym (take_more steps k (0, 0) h))))
+    f ∙ (ap (λ z. z ++ tell (get_or steps k (0, 0))) e ∙ (flat_map_more tell first (take k steps) (get_or steps k (0, 0)) ∙ ap (λ z. first ++ way_text text z) (sym (take_more steps k (0, 0) h))))
 
 -- where the steps lead from state s
 abbrev pub reached : ℕ → List (ℕ × ℕ) → ℕ

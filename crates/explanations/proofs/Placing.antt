@@ -19,7 +19,8 @@ use Rattle.comparison.specs.declared.report.Verdict.TheVariants.{Same, Different
 use Rattle.listings.specs.Offsets.{Stands}
 use Rattle.listings.proofs.Places.{step_stands}
 use Rattle.explanations.specs.Explanations.{Followed}
-use Rattle.explanations.specs.Ways.{Way, Placed}
+use Rattle.explanations.specs.Givens.{Placed}
+use Rattle.explanations.specs.Ways.{Way}
 use Rattle.explanations.proofs.Letters.{spelled_ascii}
 
 way_stands : (text : List ℕ) (t : Tree) → Spells sum 0 text t → (steps : List (ℕ × ℕ)) (s : ℕ) (f : Formula) → Way (graph t) s f steps → (step : ℕ × ℕ) → In step steps → Stands text step
@@ -28,7 +29,7 @@ way_stands text t sp (x ∷ steps) s f w step (inl e) =
     subst (Stands text) (sym e) (step_stands text t sp s x.0 x.1 (nth_in x ((graph t).steps s) w.2.place w.2.listed))
 way_stands text t sp (x ∷ steps) s f w step (inr h) = way_stands text t sp steps x.1 w.0 w.3 step h
 
-followed_stands : (text : List ℕ) (t : Tree) → Spells sum 0 text t → (v : Verdict) (lines : List Line) (steps : List (ℕ × ℕ)) → Followed (graph t) v lines steps → (step : ℕ × ℕ) → In step steps → Stands text step
+pub followed_stands : (text : List ℕ) (t : Tree) → Spells sum 0 text t → (v : Verdict) (lines : List Line) (steps : List (ℕ × ℕ)) → Followed (graph t) v lines steps → (step : ℕ × ℕ) → In step steps → Stands text step
 followed_stands text t sp Same lines steps e step h = absurd (subst (λ xs. In step xs) e h)
 followed_stands text t sp (Different n i d) lines steps w step h = way_stands text t sp steps 0 (formula (take n lines) i) w step h
 

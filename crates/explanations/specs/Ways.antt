@@ -7,8 +7,6 @@ use Rattle.drawings.specs.Texts.{action_text}
 use Rattle.formulas.specs.declared.line.Line.{Line}
 use Rattle.formulas.specs.Evaluation.{RowsMarked}
 use Rattle.formulas.specs.Lines.{Wellformed, formula}
-use Rattle.inputs.specs.declared.word.Word.{Word}
-use Rattle.inputs.specs.declared.word.Word.TheVariants.{Term, File}
 use Rattle.listings.specs.Offsets.{action_offset, Stands}
 
 -- the first of two answers
@@ -59,8 +57,8 @@ offset_text a None = []
 offset_text a (Some at) = action_text a ++ (codes " at offset " ++ (decimal at ++ codes " of the left text\n"))
 
 -- the steps of a term, by the places of their actions in its text
-abbrev pub offsets_text : List ℕ → List (ℕ × ℕ) → List ℕ
-offsets_text text steps = flat_map (λ step. offset_text step.0 (action_offset text step.1)) steps
+abbrev pub way_text : List ℕ → List (ℕ × ℕ) → List ℕ
+way_text text steps = flat_map (λ step. offset_text step.0 (action_offset text step.1)) steps
 
 -- a step out of state s of a table
 abbrev pub move_text : ℕ → ℕ × ℕ → List ℕ
@@ -70,13 +68,3 @@ move_text s step = action_text step.0 ++ (codes " from state " ++ (decimal s ++ 
 abbrev pub moves_text : ℕ → List (ℕ × ℕ) → List ℕ
 moves_text s [] = []
 moves_text s (step ∷ steps) = move_text s step ++ moves_text step.1 steps
-
--- the steps from the start of what a word names
-abbrev pub way_text : Word → List (ℕ × ℕ) → List ℕ
-way_text (Term text) steps = offsets_text text.now steps
-way_text (File path) steps = moves_text 0 steps
-
--- the actions of a term's steps stand in its text where they are said to; of a table's steps the way tells the states
-abbrev pub Placed : Word → List (ℕ × ℕ) → Type 0
-Placed (Term text) steps = (step : ℕ × ℕ) → In step steps → Stands text.now step
-Placed (File path) steps = Unit {0}

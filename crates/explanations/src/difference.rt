@@ -2,7 +2,8 @@
 ghost use Rattle.std.specs.Prelude.{◌≡◌, ℕ, ◌*◌, ◌<◌, ◌≤◌, List, ◌++◌, length, IfOk, string_bytes, OnOk};
 ghost use Rattle.theory.specs.Formulas.{Holds};
 ghost use Rattle.formulas.specs.Lines.{Wellformed, formula};
-ghost use Rattle.explanations.specs.Explanations.{sentence_text, difference_text, outcome_text, Followed, Tellable};
+ghost use Rattle.explanations.specs.Givens.{word_difference_text, word_outcome_text};
+ghost use Rattle.explanations.specs.Explanations.{sentence_text, Followed, Tellable};
 ghost use Rattle.explanations.specs.Ways.{Way};
 
 use crate::formula::push_readable;
@@ -37,7 +38,7 @@ fn push_difference<const N: usize, S: Source<N>>(
     requires inside { line < length lines.now }
     requires room { length lines.now * (S.meaning source.now).count ≤ 130688 }
     requires holds { Holds (S.meaning source.now) 0 (formula lines.now line) }
-    ensures { OnOk result (((steps : List (ℕ × ℕ)) × Way (S.meaning source.now) 0 (formula lines.now line) steps × (string_bytes out.new ≡ string_bytes out.old ++ difference_text left.entry lines.now line depth steps))) }
+    ensures { OnOk result (((steps : List (ℕ × ℕ)) × Way (S.meaning source.now) 0 (formula lines.now line) steps × (string_bytes out.new ≡ string_bytes out.old ++ word_difference_text left.entry lines.now line depth steps))) }
 {
     push_lines(out, heap, lines)?;
     let told = sentence(heap, line, depth)?;
@@ -58,7 +59,7 @@ pub fn push_outcome<const N: usize, S: Source<N>>(
     lines: &[Line],
 ) -> Result<(), AllocError>
     requires { Tellable (S.meaning source.now) verdict lines.now }
-    ensures { OnOk result (((steps : List (ℕ × ℕ)) × Followed (S.meaning source.now) verdict lines.now steps × (string_bytes out.new ≡ string_bytes out.old ++ outcome_text left.entry verdict lines.now steps))) }
+    ensures { OnOk result (((steps : List (ℕ × ℕ)) × Followed (S.meaning source.now) verdict lines.now steps × (string_bytes out.new ≡ string_bytes out.old ++ word_outcome_text left.entry verdict lines.now steps))) }
 {
     match verdict {
         Verdict::Same => Ok(()),

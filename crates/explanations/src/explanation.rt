@@ -1,7 +1,7 @@
-// Two procedures explained.
+// Two terms explained.
 ghost use Rattle.std.specs.Prelude.{◌≡◌, IfOk, string_bytes};
-ghost use Rattle.inputs.specs.Inputs.{Denotes, meaning_of};
-ghost use Rattle.inputs.specs.Words.{input_of};
+ghost use Rattle.terms.specs.Grammar.{Spells, sum};
+ghost use Rattle.terms.specs.Terms.{tree_of};
 ghost use Rattle.explanations.specs.Explanations.{refused_text, Told, Explained};
 
 use crate::difference::push_outcome;
@@ -9,57 +9,68 @@ use crate::side::Side;
 use crate::summary::summary;
 use comparison::compare;
 use formulas::Line;
-use inputs::{Given, InputFault, Parsed};
+use inputs::{Given, Parsed, Word};
 use refusals::Fault;
 use std::alloc::{AllocError, Global};
+use terms::Term;
+use terms::fault::TermFault;
 
-// Room for two procedures of 128 states each.
-const MOST_LINES: usize = 1021;
+// Room for the lines of two terms, of which each has at most 64 states.
+const MOST_LINES: usize = 512;
 
-const MOST_STATES: usize = 256;
+const MOST_STATES: usize = 128;
 
-// The line of a refused input.
-fn refused(heap: Global, side: Side, fault: InputFault) -> Result<String, AllocError>
+// The line of a refused text.
+fn refused(heap: Global, side: Side, fault: TermFault) -> Result<String, AllocError>
     ensures { IfOk result (λ t. string_bytes t ≡ refused_text side fault) }
 {
     let refusal = fault.refusal();
     format!(in heap; "{side} {refusal}\n")
 }
 
-// The comparison of two procedures that are read, told.
-fn told(
-    heap: Global,
-    left: Given<'_>,
-    p: &Parsed,
-    right: Given<'_>,
-    q: &Parsed,
-) -> Result<String, AllocError>
-    requires left { Denotes (input_of left) (meaning_of p.now) }
-    requires right { Denotes (input_of right) (meaning_of q.now) }
-    ensures { IfOk result (λ t. Told left.entry right.entry (string_bytes t)) }
+// The comparison of two terms that are read, told.
+fn told(heap: Global, left: &[u8], p: &Term, right: &[u8], q: &Term) -> Result<String, AllocError>
+    requires left { Spells sum 0 left.now (tree_of p.now) }
+    requires right { Spells sum 0 right.now (tree_of q.now) }
+    ensures { IfOk result (λ t. Told left.now right.now (string_bytes t)) }
 {
     let mut lines = [Line::True; MOST_LINES];
     let mut classes = [0; MOST_STATES];
     let Ok(report) = compare(p, q, &mut lines, &mut classes) else {
         unreachable()
     };
-    let mut out = summary(heap, left, p, right, q, report, &classes)?;
-    push_outcome(&mut out, heap, left.word, p, report.verdict, &lines)?;
+    let left_word = Word::Term(left);
+    let mut out = summary(
+        heap,
+        Given {
+            word: left_word,
+            file: &[],
+        },
+        &Parsed::Term(*p),
+        Given {
+            word: Word::Term(right),
+            file: &[],
+        },
+        &Parsed::Term(*q),
+        report,
+        &classes,
+    )?;
+    push_outcome(&mut out, heap, left_word, p, report.verdict, &lines)?;
     Ok(out)
 }
 
-// What is told of two inputs: each refusal, or else how the procedures compare.
-pub fn explain(heap: Global, left: Given<'_>, right: Given<'_>) -> Result<String, AllocError>
-    ensures { IfOk result (λ t. Explained left.entry right.entry (string_bytes t)) }
+// What is told of two texts: each refusal, or else how the terms compare.
+pub fn explain(heap: Global, left: &[u8], right: &[u8]) -> Result<String, AllocError>
+    ensures { IfOk result (λ t. Explained left.now right.now (string_bytes t)) }
 {
-    match Parsed::read(left.input()) {
-        Ok(p) => match Parsed::read(right.input()) {
+    match Term::read(left) {
+        Ok(p) => match Term::read(right) {
             Ok(q) => told(heap, left, &p, right, &q),
             Err(fault) => refused(heap, Side::Right, fault),
         },
         Err(fault) => {
             let mut out = refused(heap, Side::Left, fault)?;
-            if let Err(other) = Parsed::read(right.input()) {
+            if let Err(other) = Term::read(right) {
                 let line = refused(heap, Side::Right, other)?;
                 out.push_str(line.as_str())?;
             }

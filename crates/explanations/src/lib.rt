@@ -5,8 +5,11 @@
 mod difference;
 mod explanation;
 mod formula;
+mod given;
 mod side;
 mod summary;
 mod way;
 
 pub use explanation::explain;
+pub use given::explain_given;
+pub use listings::action_offset;

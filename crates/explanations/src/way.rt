@@ -3,7 +3,8 @@ ghost use Rattle.std.specs.Prelude.{◌≡◌, ◌*◌, ◌<◌, ◌≤◌, ◌+
 ghost use Rattle.theory.specs.Formulas.{Holds};
 ghost use Rattle.formulas.specs.Lines.{Wellformed, formula};
 ghost use Rattle.listings.specs.Offsets.{action_offset};
-ghost use Rattle.explanations.specs.Ways.{FirstMarked, Leads, Marked, Way, offset_text, offsets_text, move_text, moves_text, way_text};
+ghost use Rattle.explanations.specs.Givens.{word_way_text};
+ghost use Rattle.explanations.specs.Ways.{FirstMarked, Leads, Marked, Way, offset_text, way_text, move_text, moves_text};
 
 use drawings::ActionName;
 use formulas::{Line, evaluate};
@@ -129,7 +130,7 @@ fn push_offsets(
     text: &[u8],
     steps: &[(u8, u8)],
 ) -> Result<(), AllocError>
-    ensures { OnOk result (string_bytes out.new ≡ string_bytes out.old ++ offsets_text text.now steps.now) }
+    ensures { OnOk result (string_bytes out.new ≡ string_bytes out.old ++ way_text text.now steps.now) }
 {
     for (action, target) in steps {
         push_offset(out, heap, text, *action, *target)?;
@@ -165,7 +166,7 @@ pub fn push_way(
     left: Word<'_>,
     steps: &[(u8, u8)],
 ) -> Result<(), AllocError>
-    ensures { OnOk result (string_bytes out.new ≡ string_bytes out.old ++ way_text left.entry steps.now) }
+    ensures { OnOk result (string_bytes out.new ≡ string_bytes out.old ++ word_way_text left.entry steps.now) }
 {
     match left {
         Word::Term(text) => push_offsets(out, heap, text, steps),
