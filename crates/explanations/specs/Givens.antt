@@ -10,7 +10,7 @@ use Rattle.inputs.specs.Faults.{of_input}
 use Rattle.inputs.specs.Inputs.{first_refusal_of, Denotes}
 use Rattle.inputs.specs.Words.{word_text, input_of}
 use Rattle.drawings.specs.declared.form.Form.TheVariants.{Table}
-use Rattle.drawings.specs.Texts.{drawing, action_text}
+use Rattle.drawings.specs.Texts.{drawing}
 use Rattle.formulas.specs.declared.line.Line.{Line}
 use Rattle.formulas.specs.declared.line.Line.TheVariants.{True}
 use Rattle.formulas.specs.Lines.{formula}

@@ -1,13 +1,13 @@
 -- The steps that a formula asks for first, followed through a procedure.
 use Rattle.std.specs.Prelude.{◌≡◌, ℕ, ◌*◌, ◌<◌, ◌≤◌, List, [], ◌∷◌, ◌++◌, length, Some, None, codes, decimal, Option, ◌≢◌, slice_index}
 use Rattle.std.specs.List.{slice_get, flat_map}
-use Rattle.lts.specs.Meaning.{Meaning, In}
+use Rattle.lts.specs.Meaning.{Meaning}
 use Rattle.theory.specs.Formulas.{Formula, T, E, N, A, D, Holds}
 use Rattle.drawings.specs.Texts.{action_text}
 use Rattle.formulas.specs.declared.line.Line.{Line}
 use Rattle.formulas.specs.Evaluation.{RowsMarked}
 use Rattle.formulas.specs.Lines.{Wellformed, formula}
-use Rattle.listings.specs.Offsets.{action_offset, Stands}
+use Rattle.listings.specs.Offsets.{action_offset}
 
 -- the first of two answers
 abbrev pub first_of : {X : Type 0} → Option X → Option X → Option X
