@@ -3,9 +3,9 @@
 #![tactic(auto)]
 
 pub mod classes;
-pub mod lines;
+pub mod numbered;
 pub mod offsets;
 
 pub use classes::push_classes;
-pub use lines::push_lines;
+pub use numbered::push_lines;
 pub use offsets::action_offset;

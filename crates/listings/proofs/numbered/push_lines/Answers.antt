@@ -1,7 +1,7 @@
 use Rattle.std.proofs.Common.{string_bytes, ◌∙◌}
 use Rattle.listings.specs.Texts.{numbered_text}
 use Rattle.listings.proofs.Counting.{texts_more}
-use Rattle.listings.proofs.lines.push_lines.Goals as goal
+use Rattle.listings.proofs.numbered.push_lines.Goals as goal
 
 pub loop-k-preserved : goal.loop-k-preserved
 loop-k-preserved c =
