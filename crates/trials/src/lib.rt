@@ -7,6 +7,8 @@ mod compared;
 #[cfg(test)]
 mod drawn;
 #[cfg(test)]
+mod explained;
+#[cfg(test)]
 mod mapped;
 #[cfg(test)]
 mod stored;
