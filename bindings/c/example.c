@@ -1,7 +1,7 @@
 /* Compares two terms and prints the verdict, and on "different" the formula's lines.
  *
- *     rt staticlib embed
- *     cc -o example bindings/c/example.c target/staticlib/libembed.a
+ *     (cd crates/embed && rt lib)
+ *     cc -o example bindings/c/example.c crates/embed/out/libembed.a
  *     ./example 'a.(b+c)+a.b' 'a.(b+c)'
  */
 #include <stdio.h>

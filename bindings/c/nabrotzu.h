@@ -1,6 +1,6 @@
 /* Procedures compared, formulas evaluated, and the console, from C.
  *
- * Link with target/staticlib/libembed.a, which `rt staticlib embed` builds.
+ * Link with crates/embed/out/libembed.a, which `rt lib` in crates/embed builds.
  * No function keeps a pointer or allocates memory. No pointer may be null, also where its length is 0, and no two buffers may
  * overlap. */
 #ifndef NABROTZU_H

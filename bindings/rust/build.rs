@@ -1,4 +1,4 @@
-//! Links the static library `embed`, which `rt staticlib embed` builds in the repository's `target/staticlib`. The environment
+//! Links the static library `embed`, which `rt lib` builds in the folder `crates/embed`. The environment
 //! variable NABROTZU_LIB_DIR names another directory.
 
 use std::env;
@@ -9,11 +9,11 @@ fn main() {
     let directory = match env::var_os("NABROTZU_LIB_DIR") {
         Some(directory) => PathBuf::from(directory),
         None => PathBuf::from(env::var_os("CARGO_MANIFEST_DIR").expect("cargo sets CARGO_MANIFEST_DIR"))
-            .join("../../target/staticlib"),
+            .join("../../crates/embed/out"),
     };
     let archive = directory.join("libembed.a");
     if !archive.exists() {
-        println!("cargo::warning={} is missing: build it with `rt staticlib embed`", archive.display());
+        println!("cargo::warning={} is missing: build it by `rt lib` in crates/embed", archive.display());
     }
     println!("cargo::rerun-if-changed=build.rs");
     println!("cargo::rerun-if-changed={}", archive.display());
