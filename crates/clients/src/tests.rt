@@ -167,21 +167,16 @@ fn claims(rt: HostRuntime) -> Result<(), Fail> {
     Ok(())
 }
 
-// A clearance is no good after a newer claim, nor on another shelf, whatever its number; the pending procedure stays.
+// A clearance is no good after a newer claim, nor on a shelf with another number.
 #[test]
 fn clearances(rt: HostRuntime) -> Result<(), Fail> {
     let mut lines = [Line::True; 64];
     let mut classes = [0u16; 16];
     let term = Term::read(b"a")?;
     let mut shelf = Shelf::new(3);
-    let mut namesake = Shelf::new(3);
     let mut other = Shelf::new(4);
     assert_eq!(rt; number(shelf.file(0, &term)), 0);
     assert_eq!(rt; number(shelf.submit(0, &term, &mut lines, &mut classes)), 0);
-    if let Ok(mut older) = shelf.claim(0) {
-        let refused = number(namesake.withdraw(&mut older));
-        assert_eq!(rt; refused, 29);
-    }
     if let Ok(mut older) = shelf.claim(0) {
         if let Ok(mut newer) = shelf.claim(0) {
             let refused = number(shelf.release(&mut older));
@@ -191,6 +186,24 @@ fn clearances(rt: HostRuntime) -> Result<(), Fail> {
         } else {
             let _ = shelf.withdraw(&mut older);
         }
+    }
+    assert_eq!(rt; number(discard(&mut shelf, 0)), 0);
+    Ok(())
+}
+
+// Nor on another shelf with the same number; the pending procedure stays.
+#[test]
+fn namesakes(rt: HostRuntime) -> Result<(), Fail> {
+    let mut lines = [Line::True; 13];
+    let mut classes = [0u16; 4];
+    let term = Term::read(b"a")?;
+    let mut shelf = Shelf::new(3);
+    let mut namesake = Shelf::new(3);
+    assert_eq!(rt; number(shelf.file(0, &term)), 0);
+    assert_eq!(rt; number(shelf.submit(0, &term, &mut lines, &mut classes)), 0);
+    if let Ok(mut clearance) = shelf.claim(0) {
+        let refused = number(namesake.withdraw(&mut clearance));
+        assert_eq!(rt; refused, 29);
     }
     assert_eq!(rt; number(discard(&mut shelf, 0)), 0);
     Ok(())
