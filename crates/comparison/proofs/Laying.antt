@@ -7,7 +7,7 @@ use Rattle.std.proofs.lemmas.Bool.{not-false}
 use Rattle.lts.specs.Meaning.{Meaning, In}
 use Rattle.lts.specs.Laws.Member.{in_left, in_right, in_either}
 use Rattle.comparison.specs.Reach.{hits, holds, Put}
-use Rattle.comparison.specs.Layouts.{from, many, run, SameListed, Laid_out, Laying}
+use Rattle.comparison.specs.Layouts.{from, many, run, SameListed, LaidOut, Laying}
 use Rattle.comparison.specs.declared.layout.Layout.{Layout}
 use Rattle.comparison.specs.declared.reach.Reach.{Reach}
 use Rattle.comparison.proofs.Pairs.{hits_in, take_listed}
@@ -51,7 +51,7 @@ same_again xs ys a t old h =
 abbrev pub pushed : Layout → ℕ × ℕ → Layout
 pushed p x = record { states = p.states; ends = p.ends; first = p.first; counts = p.counts; steps = set p.steps p.used x; used = p.used + 1 }
 
-pub pushed_below : (m : Meaning) (s : ℕ) (p : Layout) (x : ℕ × ℕ) → Laid_out m s p → p.used < 2048 → Laid_out m s (pushed p x)
+pub pushed_below : (m : Meaning) (s : ℕ) (p : Layout) (x : ℕ × ℕ) → LaidOut m s p → p.used < 2048 → LaidOut m s (pushed p x)
 pushed_below m s p x h room =
     record {
       ends_size = h.ends_size;
@@ -103,7 +103,7 @@ abbrev pub closed : Layout → ℕ → Bool → ℕ → Layout
 closed p s end i =
     record { states = p.states; ends = set p.ends s end; first = set p.first s i; counts = set p.counts s (p.used - i); steps = p.steps; used = p.used }
 
-pub close_state : (m : Meaning) (s i : ℕ) (p : Layout) (end : Bool) → s < 256 → i ≤ p.used → end ≡ m.ends s → Laid_out m s p → SameListed (m.steps s) (run p i (p.used - i)) → Laid_out m (s + 1) (closed p s end i)
+pub close_state : (m : Meaning) (s i : ℕ) (p : Layout) (end : Bool) → s < 256 → i ≤ p.used → end ≡ m.ends s → LaidOut m s p → SameListed (m.steps s) (run p i (p.used - i)) → LaidOut m (s + 1) (closed p s end i)
 close_state m s i p end few begun is h last =
     record {
       ends_size = length-set p.ends s end ∙ h.ends_size;

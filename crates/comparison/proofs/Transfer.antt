@@ -9,7 +9,7 @@ use Rattle.theory.specs.Formulas.{Formula, T, E, N, A, D, Holds}
 use Rattle.formulas.specs.Lines.{formula}
 use Rattle.formulas.specs.declared.line.Line.{Line}
 use Rattle.comparison.specs.Found.{Found}
-use Rattle.comparison.specs.Layouts.{step_at, from, many, laid, SameListed, SameSteps, Laid_out}
+use Rattle.comparison.specs.Layouts.{step_at, from, many, laid, SameListed, SameSteps, LaidOut}
 use Rattle.comparison.specs.Outcomes.{Compares}
 use Rattle.comparison.specs.declared.layout.Layout.{Layout}
 use Rattle.comparison.specs.declared.outcome.Outcome.{Outcome}
@@ -85,7 +85,7 @@ counting_in k a zero low high = let b : ⊥ = omega arith in absurd b
 counting_in k a (suc n) low high = ⊎_elim (λ e. inl e) (λ ne. inr (counting_in k (a + 1) n (omega arith) (omega arith))) (cases_eq k a)
 
 -- A layout of all states has the same steps, and can be read as a system.
-module _ {most : ℕ} (m : Meaning) (law : Lawful most m) (p : Layout) (h : Laid_out m m.count p) where
+module _ {most : ℕ} (m : Meaning) (law : Lawful most m) (p : Layout) (h : LaidOut m m.count p) where
   same_ends : (s : ℕ) → (laid p).ends s ≡ m.ends s
   same_ends s = ⊎_elim inside outside (cases_lt s m.count)
     where

@@ -37,7 +37,7 @@ pub record SameSteps (m n : Meaning) : Type 0 where
   pub steps : (s : ℕ) → SameListed (m.steps s) (n.steps s)
 
 -- p holds the states of m, and the ends and steps of those below s
-pub record Laid_out (m : Meaning) (s : ℕ) (p : Layout) : Type 0 where
+pub record LaidOut (m : Meaning) (s : ℕ) (p : Layout) : Type 0 where
   pub ends_size : length p.ends ≡ 256
   pub first_size : length p.first ≡ 256
   pub counts_size : length p.counts ≡ 256
@@ -50,11 +50,11 @@ pub record Laid_out (m : Meaning) (s : ℕ) (p : Layout) : Type 0 where
 
 -- and from place i on the first k steps of s, which are those that were seen
 pub record Laying (m : Meaning) (s i k : ℕ) (table : Reach) (p : Layout) : Type 0 where
-  pub below : Laid_out m s p
+  pub below : LaidOut m s p
   pub begun : i ≤ p.used
   pub seen : Reached (λ u. u) (take k (m.steps s)) table
   pub steps : SameListed (take k (m.steps s)) (run p i (p.used - i))
 
 -- all of m, where there is room
 abbrev pub Lays : Meaning → Bool → Layout → Type 0
-Lays m fits p = fits ≡ true → Laid_out m m.count p
+Lays m fits p = fits ≡ true → LaidOut m m.count p

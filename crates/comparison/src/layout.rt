@@ -1,6 +1,6 @@
 // Both procedures laid out flat, each step once, so that the rounds ask their sources no more.
 ghost use Rattle.std.specs.Prelude.{◌≡◌, ◌+◌, ◌<◌, ◌≤◌, true};
-ghost use Rattle.comparison.specs.Layouts.{Laid_out, Lays};
+ghost use Rattle.comparison.specs.Layouts.{LaidOut, Lays};
 
 use crate::reach::Reach;
 use lts::System;
@@ -22,8 +22,8 @@ pub struct Layout {
 // Lays out state s behind the states below it; false where there is no room.
 fn lay_state<S: System>(system: &S, s: usize, seen: &mut Reach, to: &mut Layout) -> bool
     requires state { s < (S.meaning system.now).count }
-    requires laid { Laid_out (S.meaning system.now) s to.old }
-    ensures { result ≡ true → Laid_out (S.meaning system.now) (s + 1) to.new }
+    requires laid { LaidOut (S.meaning system.now) s to.old }
+    ensures { result ≡ true → LaidOut (S.meaning system.now) (s + 1) to.new }
 {
     let from = to.used;
     seen.clear();
@@ -47,7 +47,7 @@ fn lay_state<S: System>(system: &S, s: usize, seen: &mut Reach, to: &mut Layout)
 impl Layout {
     // So many states, none laid out yet.
     pub fn bare<S: System>(system: &S) -> Layout
-        ensures { Laid_out (S.meaning system.now) 0 result }
+        ensures { LaidOut (S.meaning system.now) 0 result }
     {
         Layout {
             states: system.states(),
@@ -62,7 +62,7 @@ impl Layout {
 
 // Lays out all states; false where there is no room.
 pub fn lay_out<S: System>(system: &S, seen: &mut Reach, to: &mut Layout) -> bool
-    requires { Laid_out (S.meaning system.now) 0 to.old }
+    requires { LaidOut (S.meaning system.now) 0 to.old }
     ensures { Lays (S.meaning system.now) result to.new }
 {
     for s in 0..system.states() {

@@ -1,5 +1,5 @@
 -- What is told of two procedures that are given as words, of a term or of a table file.
-use Rattle.std.specs.Prelude.{◌≡◌, ℕ, ◌+◌, List, [], ◌++◌, take, replicate, Some, None, Ok, codes, Option}
+use Rattle.std.specs.Prelude.{◌≡◌, ℕ, List, [], ◌++◌, take, replicate, Some, None, Ok, codes, Option}
 use Rattle.refusals.specs.Texts.{refusal_text}
 use Rattle.lts.specs.Meaning.{Meaning, In}
 use Rattle.inputs.specs.declared.fault.InputFault.{InputFault}
@@ -9,8 +9,6 @@ use Rattle.inputs.specs.declared.word.Word.TheVariants.{Term, File}
 use Rattle.inputs.specs.Faults.{of_input}
 use Rattle.inputs.specs.Inputs.{first_refusal_of, Denotes}
 use Rattle.inputs.specs.Words.{word_text, input_of}
-use Rattle.drawings.specs.declared.form.Form.TheVariants.{Table}
-use Rattle.drawings.specs.Texts.{drawing}
 use Rattle.formulas.specs.declared.line.Line.{Line}
 use Rattle.formulas.specs.declared.line.Line.TheVariants.{True}
 use Rattle.formulas.specs.Lines.{formula}
@@ -19,10 +17,10 @@ use Rattle.comparison.specs.declared.report.Verdict.{Verdict}
 use Rattle.comparison.specs.declared.report.Verdict.TheVariants.{Same, Different}
 use Rattle.comparison.specs.Compared.{Compared}
 use Rattle.listings.specs.Offsets.{Stands}
-use Rattle.listings.specs.Texts.{classes_text, lines_text}
+use Rattle.listings.specs.Texts.{lines_text}
 use Rattle.explanations.specs.declared.side.Side.{Side}
 use Rattle.explanations.specs.declared.side.Side.TheVariants.{Left, Right}
-use Rattle.explanations.specs.Explanations.{verdict_text, sentence_text, Followed}
+use Rattle.explanations.specs.Explanations.{sentence_text, summary_text, Followed}
 use Rattle.explanations.specs.Sides.{side_text}
 use Rattle.explanations.specs.Formulas.{readable_text}
 use Rattle.explanations.specs.Ways.{way_text, moves_text}
@@ -41,10 +39,6 @@ Placed (File path) steps = Unit {0}
 abbrev pub input_refused_text : Side → InputFault → List ℕ
 input_refused_text side fault = side_text side ++ (codes " " ++ (refusal_text (of_input fault) ++ codes "\n"))
 
--- a word as it is given, and the table of what it names
-abbrev pub word_procedure_text : Side → Word → Meaning → List ℕ
-word_procedure_text side word m = side_text side ++ (codes " " ++ (word_text word ++ (codes "\n" ++ drawing Table m)))
-
 -- the lines, what line i shows, its formula, and the steps that it asks for first
 abbrev pub word_difference_text : Word → List Line → ℕ → ℕ → List (ℕ × ℕ) → List ℕ
 word_difference_text left lines i d steps = lines_text lines ++ (sentence_text i d ++ (readable_text (formula lines i) ++ word_way_text left steps))
@@ -53,11 +47,6 @@ word_difference_text left lines i d steps = lines_text lines ++ (sentence_text i
 abbrev pub word_outcome_text : Word → Verdict → List Line → List (ℕ × ℕ) → List ℕ
 word_outcome_text left Same lines steps = []
 word_outcome_text left (Different n i d) lines steps = word_difference_text left (take n lines) i d steps
-
--- both words with their tables, the verdict, and the classes
-abbrev pub word_summary_text : Word → Word → Meaning → Meaning → Report → List ℕ → List ℕ
-word_summary_text left right p q report classes =
-    word_procedure_text Left left p ++ (word_procedure_text Right right q ++ (verdict_text report ++ classes_text p.count (take (p.count + q.count) classes) report.classes))
 
 -- What is given denotes two procedures, which were compared over buffers of 1,021 lines and 256 class numbers, and the
 -- report and the buffers are told. Each step that is named stands where it is said to.
@@ -73,7 +62,7 @@ pub record GivenTold (left right : Given) (out : List ℕ) : Type 0 where
   pub steps : List (ℕ × ℕ)
   pub followed : Followed p report.verdict lines steps
   pub placed : Placed left.word steps
-  pub text : out ≡ word_summary_text left.word right.word p q report classes ++ word_outcome_text left.word report.verdict lines steps
+  pub text : out ≡ summary_text (word_text left.word) (word_text right.word) p q report classes ++ word_outcome_text left.word report.verdict lines steps
 
 -- by the refusals of the two
 abbrev pub GivenAnswer : Option InputFault → Option InputFault → Given → Given → List ℕ → Type 0

@@ -1,32 +1,23 @@
 // Two terms explained.
-ghost use Rattle.std.specs.Prelude.{◌≡◌, IfOk, string_bytes};
+ghost use Rattle.std.specs.Prelude.{IfOk, string_bytes};
 ghost use Rattle.terms.specs.Grammar.{Spells, sum};
 ghost use Rattle.terms.specs.Terms.{tree_of};
-ghost use Rattle.explanations.specs.Explanations.{refused_text, Told, Explained};
+ghost use Rattle.explanations.specs.Explanations.{Told, Explained};
 
 use crate::difference::push_outcome;
+use crate::given::refused;
 use crate::side::Side;
 use crate::summary::summary;
 use comparison::compare;
 use formulas::Line;
-use inputs::{Given, Parsed, Word};
-use refusals::Fault;
+use inputs::{Given, InputFault, Parsed, Word};
 use std::alloc::{AllocError, Global};
 use terms::Term;
-use terms::fault::TermFault;
 
 // Room for the lines of two terms, of which each has at most 64 states.
 const MOST_LINES: usize = 512;
 
 const MOST_STATES: usize = 128;
-
-// The line of a refused text.
-fn refused(heap: Global, side: Side, fault: TermFault) -> Result<String, AllocError>
-    ensures { IfOk result (λ t. string_bytes t ≡ refused_text side fault) }
-{
-    let refusal = fault.refusal();
-    format!(in heap; "{side} {refusal}\n")
-}
 
 // The comparison of two terms that are read, told.
 fn told(heap: Global, left: &[u8], p: &Term, right: &[u8], q: &Term) -> Result<String, AllocError>
@@ -66,12 +57,12 @@ pub fn explain(heap: Global, left: &[u8], right: &[u8]) -> Result<String, AllocE
     match Term::read(left) {
         Ok(p) => match Term::read(right) {
             Ok(q) => told(heap, left, &p, right, &q),
-            Err(fault) => refused(heap, Side::Right, fault),
+            Err(fault) => refused(heap, Side::Right, InputFault::Term(fault)),
         },
         Err(fault) => {
-            let mut out = refused(heap, Side::Left, fault)?;
+            let mut out = refused(heap, Side::Left, InputFault::Term(fault))?;
             if let Err(other) = Term::read(right) {
-                let line = refused(heap, Side::Right, other)?;
+                let line = refused(heap, Side::Right, InputFault::Term(other))?;
                 out.push_str(line.as_str())?;
             }
             Ok(out)

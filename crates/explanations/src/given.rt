@@ -19,7 +19,7 @@ const MOST_LINES: usize = 1021;
 const MOST_STATES: usize = 256;
 
 // The line of a refused input.
-fn refused(heap: Global, side: Side, fault: InputFault) -> Result<String, AllocError>
+pub fn refused(heap: Global, side: Side, fault: InputFault) -> Result<String, AllocError>
     ensures { IfOk result (λ t. string_bytes t ≡ input_refused_text side fault) }
 {
     let refusal = fault.refusal();

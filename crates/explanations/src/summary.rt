@@ -1,9 +1,8 @@
 // What is told of two procedures whatever the verdict: both procedures, the verdict, the classes.
 ghost use Rattle.std.specs.Prelude.{◌≡◌, ◌+◌, ◌≤◌, length, IfOk, string_bytes};
 ghost use Rattle.inputs.specs.Inputs.{Denotes, meaning_of};
-ghost use Rattle.inputs.specs.Words.{input_of};
-ghost use Rattle.explanations.specs.Givens.{word_procedure_text, word_summary_text};
-ghost use Rattle.explanations.specs.Explanations.{verdict_word, verdict_text};
+ghost use Rattle.inputs.specs.Words.{input_of, word_text};
+ghost use Rattle.explanations.specs.Explanations.{procedure_text, verdict_word, verdict_text, summary_text};
 
 use crate::side::Side;
 use comparison::{Report, Verdict};
@@ -22,7 +21,7 @@ fn procedure(
     read: &Parsed,
 ) -> Result<String, AllocError>
     requires { Denotes (input_of given) (meaning_of read.now) }
-    ensures { IfOk result (λ t. string_bytes t ≡ word_procedure_text side given.entry.word (meaning_of read.now)) }
+    ensures { IfOk result (λ t. string_bytes t ≡ procedure_text side (word_text given.entry.word) (meaning_of read.now)) }
 {
     let table = draw(heap, Form::Table, read)?;
     match given.word {
@@ -67,7 +66,7 @@ pub fn summary(
     requires left { Denotes (input_of left) (meaning_of p.now) }
     requires right { Denotes (input_of right) (meaning_of q.now) }
     requires room { (meaning_of p.now).count + (meaning_of q.now).count ≤ length classes.now }
-    ensures { IfOk result (λ t. string_bytes t ≡ word_summary_text left.entry.word right.entry.word (meaning_of p.now) (meaning_of q.now) report classes.now) }
+    ensures { IfOk result (λ t. string_bytes t ≡ summary_text (word_text left.entry.word) (word_text right.entry.word) (meaning_of p.now) (meaning_of q.now) report classes.now) }
 {
     let mut out = procedure(heap, Side::Left, left, p)?;
     let other = procedure(heap, Side::Right, right, q)?;

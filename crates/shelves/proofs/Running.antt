@@ -10,7 +10,7 @@ use Rattle.comparison.specs.declared.report.Verdict.{Verdict}
 use Rattle.comparison.specs.declared.report.Verdict.TheVariants.{Same, Different}
 use Rattle.theory.specs.Formulas.{depth}
 use Rattle.accounts.specs.Account.{Account, new}
-use Rattle.accounts.specs.Calls.{Call, submit, called_same, Event, Run, start}
+use Rattle.accounts.specs.Calls.{Call, submit, Answer, called_same, Event, Run, start}
 use Rattle.accounts.specs.Law.{Law}
 use Rattle.accounts.proofs.Lasting.{lasting, run_number}
 use Rattle.shelves.specs.Moves.{Moved, told, fault_answer, Unweighed}
@@ -37,15 +37,19 @@ unlike_told Nothing a s m lines lines' classes classes' w = refl
 unlike_told Claims a s m lines lines' classes classes' w = refl
 unlike_told Uncleared a s m lines lines' classes classes' w = refl
 
+-- a submission by the number of its places
+lent : (a a' : Account) (s : ℕ) (m : Meaning) (lines : List Line) (classes : List ℕ) (l k : ℕ) (r : Answer) → length lines ≡ l → length classes ≡ k → Moved a (submit s m (length lines) (length classes)) r a' → Moved a (submit s m l k) r a'
+lent a a' s m lines classes l k r el ek moved = subst (λ x. Moved a (submit s m x k) r a') el (subst (λ y. Moved a (submit s m (length lines) y) r a') ek moved)
+
 -- a submission that is not the same
 pub unlike_performed : (f : ShelfFault) (o : Outcome) (a a' : Account) (s : ℕ) (m : Meaning) (lines lines' : List Line) (classes classes' : List ℕ) (l k : ℕ) → length lines ≡ l → length classes ≡ k → o ≡ fault_outcome f → Moved a (submit s m (length lines) (length classes)) (fault_answer f lines') a' → Unweighed f a s m lines classes lines' classes' → Performed a (submit s m l k) o a'
 unlike_performed f o a a' s m lines lines' classes classes' l k el ek eo moved w =
-    record { answer = fault_answer f lines'; moved = subst (λ x. Moved a (submit s m x k) (fault_answer f lines') a') el (subst (λ y. Moved a (submit s m (length lines) y) (fault_answer f lines') a') ek moved); told = eo ∙ sym (unlike_told f a s m lines lines' classes classes' w) }
+    record { answer = fault_answer f lines'; moved = lent a a' s m lines classes l k (fault_answer f lines') el ek moved; told = eo ∙ sym (unlike_told f a s m lines lines' classes classes' w) }
 
 -- a submission that is the same
 pub same_performed : (a a' : Account) (s : ℕ) (m : Meaning) (lines : List Line) (classes : List ℕ) (l k : ℕ) → length lines ≡ l → length classes ≡ k → Moved a (submit s m (length lines) (length classes)) called_same a' → Performed a (submit s m l k) Agreed a'
 same_performed a a' s m lines classes l k el ek moved =
-    record { answer = called_same; moved = subst (λ x. Moved a (submit s m x k) called_same a') el (subst (λ y. Moved a (submit s m (length lines) y) called_same a') ek moved); told = refl }
+    record { answer = called_same; moved = lent a a' s m lines classes l k called_same el ek moved; told = refl }
 
 -- no call yet
 pub follows_none : (n : ℕ) (a : Account) → a ≡ new n → Follows n [] [] a

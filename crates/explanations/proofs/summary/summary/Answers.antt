@@ -1,8 +1,8 @@
 use Rattle.std.proofs.Common.{◌≡◌, ◌+◌, ◌-◌, ◌++◌, take, string_bytes, ap, ◌∙◌, arith}
 use Rattle.inputs.specs.Inputs.{meaning_of}
 use Rattle.explanations.specs.declared.side.Side.TheVariants.{Left, Right}
-use Rattle.explanations.specs.Explanations.{verdict_text}
-use Rattle.explanations.specs.Givens.{word_procedure_text}
+use Rattle.inputs.specs.Words.{word_text}
+use Rattle.explanations.specs.Explanations.{procedure_text, verdict_text}
 use Rattle.listings.specs.Texts.{classes_text}
 use Rattle.listings.proofs.Pieces.{three_pieces}
 use Rattle.explanations.proofs.summary.summary.Goals as goal
@@ -11,8 +11,8 @@ pub returns : goal.returns
 returns c =
     let p = meaning_of c.args.p.now in
     let q = meaning_of c.args.q.now in
-    let first = word_procedure_text Left c.args.left.word p in
-    let second = word_procedure_text Right c.args.right.word q in
+    let first = procedure_text Left (word_text c.args.left.word) p in
+    let second = procedure_text Right (word_text c.args.right.word) q in
     let e : c.states-n.result + c.states.result - 0 ≡ p.count + q.count = omega (arith, c.states-n.ensures, c.states.ensures) in
     let one = c.in_ok-push_str.ensures.bytes ∙ (λ i. c.in_ok-out.ensures i ++ (c.as_str.ensures.value ∙ c.in_ok-other.ensures) i) in
     let two = c.in_ok-push_str-2.ensures.bytes ∙ ap (λ z. string_bytes c.push_str.new.self ++ z) (c.as_str-2.ensures.value ∙ c.in_ok-verdict.ensures) in
