@@ -14,7 +14,7 @@ use Rattle.lts.specs.Laws.Member.{listed_action, listed_target}
 use Rattle.lts.specs.Laws.Same.{same_meaning}
 use Rattle.lts.proofs.Counting.{before_more, place_state}
 
-module _ {most : ℕ} (m : Meaning) (law : Lawful most m) (few : most ≤ 128) (p : Procedure) (filled : Filled m m.count 0 p) where
+module _ (m : Meaning) (law : Lawful 128 m) (p : Procedure) (filled : Filled m m.count 0 p) where
   same_listed : (s : ℕ) → s < m.count → listed p s ≡ m.steps s
   same_listed s h =
       let a = filled.firsts s (omega arith) in

@@ -21,8 +21,8 @@ module _ (p q : Meaning) (n s : ℕ) (all : n ≡ p.count) (past : n ≤ s) wher
     pub step_on : Some (a, n + t) ≡ slice_get ((joined p q).steps s) k
     step_on = rw steps_on (sym (nth_map (raised n) (q.steps (s - n)) k (a, t) (sym at)))
 
-    pub target_on : {x y : ℕ} → Lawful x p → Lawful y q → x ≤ 128 → y ≤ 128 → n + t < 256
-    target_on left right f g =
+    pub target_on : Lawful 128 p → Lawful 128 q → n + t < 256
+    target_on left right =
         let l = left.few in
         let r = right.few in
         let h = listed_target q right (s - n) k a t at in

@@ -33,6 +33,6 @@ placed v s k h =
     let p = v.of.now in
     let i = lists_inside p s k h in
     let n = count_inside p s i in
-    let m = all_room p v.some v.few v.rises v.room v.acts v.aims s i in
-    let o = v.room in
+    let m = all_room p v.sound s i in
+    let o = v.sound.room in
     (i, omega arith, omega arith)

@@ -5,9 +5,11 @@ ghost use Rattle.lts.specs.Filling.{Filled};
 
 use crate::procedure::Procedure;
 use crate::source::Source;
+use crate::steps::Steps;
+use crate::system::System;
 
 // The number of steps that a source lists in all.
-fn step_total<const N: usize, S: Source<N>>(source: &S) -> usize
+fn step_total<S: System>(source: &S) -> usize
     ensures { result ≡ total (S.meaning source.now) }
 {
     let mut all = 0;
@@ -22,8 +24,8 @@ fn bare<const N: usize, S: Source<N>>(source: &S) -> Procedure
     ensures { Filled (S.meaning source.now) 0 0 result }
 {
     let mut ends = [false; 128];
-    for s in 0..S::MOST.states {
-        ends[s] = source.is_end(s);
+    for (s, end) in ends.iter_mut().enumerate() {
+        *end = source.is_end(s);
     }
     Procedure {
         states: source.states() as u8,
@@ -42,10 +44,8 @@ fn copy_steps<const N: usize, S: Source<N>>(source: &S, s: usize, to: &mut Proce
 {
     let from = to.first[s] as usize;
     let count = source.step_count(s);
-    for k in 0..count {
-        if let Some(step) = source.step(s, k) {
-            to.steps[from + k] = step;
-        }
+    for (k, step) in Steps::of(source, s).enumerate() {
+        to.steps[from + k] = step;
     }
     to.first[s + 1] = (from + count) as u16;
 }

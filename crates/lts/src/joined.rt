@@ -2,6 +2,7 @@
 ghost use Rattle.std.specs.Prelude.{◌≡◌};
 ghost use Rattle.lts.specs.Joined.{joined};
 ghost use Rattle.lts.specs.Laws.Joined.{joined_lawful};
+ghost use Rattle.lts.specs.Laws.Most.{narrow};
 
 use crate::source::Source;
 use crate::system::System;
@@ -21,14 +22,11 @@ impl<'a, 'b, const M: usize, const N: usize, L: Source<M>, R: Source<N>> Pair<'a
     }
 }
 
-impl<'a, 'b, L, R, const M: usize, const N: usize> System for Pair<'a, 'b, L, R, M, N>
-where
-    L: Source<M>,
-    R: Source<N>,
-{
-    ghost meaning = { λ x. joined (L.Source.meaning x.left.now) (R.Source.meaning x.right.now) };
+impl<'a, 'b, const M: usize, const N: usize, L: Source<M>, R: Source<N>> System
+    for Pair<'a, 'b, L, R, M, N> {
+    ghost meaning = { λ x. joined (L.meaning x.left.now) (R.meaning x.right.now) };
 
-    ghost lawful = { λ x. joined_lawful (L.Source.meaning x.left.now) (R.Source.meaning x.right.now) (L.Source.lawful x.left.now) (R.Source.lawful x.right.now) L.Source.bounded R.Source.bounded };
+    ghost lawful = { λ x. joined_lawful (L.meaning x.left.now) (R.meaning x.right.now) (narrow (L.fits x.left.now) L.bounded (L.lawful x.left.now)) (narrow (R.fits x.right.now) R.bounded (R.lawful x.right.now)) };
 
     fn states(&self) -> usize {
         self.left.states() + self.right.states()

@@ -9,6 +9,7 @@ pub mod map_fault;
 pub mod mapped;
 pub mod procedure;
 pub mod source;
+pub mod steps;
 pub mod stored;
 pub mod system;
 
@@ -19,5 +20,6 @@ pub use map_fault::MapFault;
 pub use mapped::Mapped;
 pub use procedure::Procedure;
 pub use source::{Most, Source};
+pub use steps::Steps;
 pub use stored::Stored;
 pub use system::System;

@@ -4,24 +4,18 @@ ghost use Rattle.lts.specs.Laws.Mapped.{mapped_lawful};
 
 use crate::action_map::ActionMap;
 use crate::source::{Most, Source};
+use crate::system::System;
 
 #[derive_where(Clone, Copy)]
-pub struct Mapped<'a, 'b, S, const N: usize> {
+pub struct Mapped<'a, 'b, S> {
     pub map: &'a ActionMap,
     pub source: &'b S,
 }
 
-impl<'a, 'b, S, const N: usize> Source<N> for Mapped<'a, 'b, S, N>
-where
-    S: Source<N>,
-{
-    const MOST: Most<N> = S::MOST;
+impl<'a, 'b, S: System> System for Mapped<'a, 'b, S> {
+    ghost meaning = { λ x. mapped x.map.now.entries (S.meaning x.source.now) };
 
-    ghost bounded = { S.Source.bounded };
-
-    ghost meaning = { λ x. mapped x.map.now.entries (S.Source.meaning x.source.now) };
-
-    ghost lawful = { λ x. mapped_lawful x.map.now.entries x.map.now.actions (S.Source.meaning x.source.now) (S.Source.lawful x.source.now) };
+    ghost lawful = { λ x. mapped_lawful x.map.now.entries x.map.now.actions (S.meaning x.source.now) (S.lawful x.source.now) };
 
     fn states(&self) -> usize {
         self.source.states()
@@ -40,4 +34,12 @@ where
         let entry = self.map.get(action)?;
         Some((entry, target))
     }
+}
+
+impl<'a, 'b, const N: usize, S: Source<N>> Source<N> for Mapped<'a, 'b, S> {
+    const MOST: Most<N> = S::MOST;
+
+    ghost bounded = { S.bounded };
+
+    ghost fits = { λ x. S.fits x.source.now };
 }

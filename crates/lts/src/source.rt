@@ -1,7 +1,7 @@
-// What can be asked of a procedure, whatever form it is kept in.
-ghost use Rattle.std.specs.Prelude.{◌≡◌, ◌≤◌, length};
-ghost use Rattle.std.specs.List.{slice_get};
-ghost use Rattle.lts.specs.Meaning.{Meaning, Lawful};
+// One procedure.
+ghost use Rattle.std.specs.Prelude.{◌≡◌, ◌≤◌};
+
+use crate::system::System;
 
 // The largest number of states of a kind of source.
 #[derive(Clone, Copy)]
@@ -10,27 +10,10 @@ pub struct Most<const N: usize> {
     ghost tied: { states ≡ N },
 }
 
-pub trait Source<const N: usize> {
+pub trait Source<const N: usize>: System {
     const MOST: Most<N>;
 
     ghost bounded: { N ≤ 128 };
 
-    ghost meaning: { Self → Meaning };
-
-    ghost lawful: { (x : Self) → Lawful N (meaning x) };
-
-    // The number of states.
-    fn states(&self) -> usize
-        ensures { result ≡ (meaning self.now).count };
-
-    fn is_end(&self, s: usize) -> bool
-        ensures { result ≡ (meaning self.now).ends s };
-
-    // How many steps are listed out of state s.
-    fn step_count(&self, s: usize) -> usize
-        ensures { result ≡ length ((meaning self.now).steps s) };
-
-    // The k-th step listed out of state s: its action and its target.
-    fn step(&self, s: usize, k: usize) -> Option<(u8, u8)>
-        ensures { result ≡ slice_get ((meaning self.now).steps s) k };
+    ghost fits: { (x : Self) → (Self.meaning x).count ≤ N };
 }

@@ -1,13 +1,11 @@
-// What can be asked of the two procedures of a comparison, side by side.
+// What can be asked of a procedure, or of two side by side, whatever form they are kept in.
 ghost use Rattle.std.specs.Prelude.{◌≡◌, length};
 ghost use Rattle.std.specs.List.{slice_get};
 ghost use Rattle.lts.specs.Meaning.{Meaning, Lawful};
 
-// The same questions as of a source, of at most 256 states.
+// At most 256 states: two procedures of 128.
 pub trait System {
     ghost meaning: { Self → Meaning };
-
-    ghost lawful: { (x : Self) → Lawful 256 (meaning x) };
 
     // The number of states.
     fn states(&self) -> usize
@@ -23,4 +21,6 @@ pub trait System {
     // The k-th step listed out of state s: its action and its target.
     fn step(&self, s: usize, k: usize) -> Option<(u8, u8)>
         ensures { result ≡ slice_get ((meaning self.now).steps s) k };
+
+    ghost lawful: { (x : Self) → Lawful 256 (meaning x) };
 }

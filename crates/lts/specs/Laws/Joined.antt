@@ -55,7 +55,7 @@ module _ (p q : Meaning) where
   pub to_right : (s a u : ℕ) → In (a, u) (q.steps s) → In (a, p.count + u) ((joined p q).steps (p.count + s))
   to_right s a u h = rw (right_steps s) (in_map (raised p.count) (a, u) (q.steps s) h)
 
-module _ {m n : ℕ} (p q : Meaning) (left : Lawful m p) (right : Lawful n q) (left_few : m ≤ 128) (right_few : n ≤ 128) where
+module _ (p q : Meaning) (left : Lawful 128 p) (right : Lawful 128 q) where
   brief : (s : ℕ) → length ((joined p q).steps s) ≤ 4096
   brief s = ⊎_elim on_left on_right (cases_lt s p.count)
     where

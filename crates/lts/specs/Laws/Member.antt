@@ -1,5 +1,5 @@
 -- What stands in a list.
-use Rattle.std.specs.Prelude.{◌≡◌, ℕ, zero, suc, ◌+◌, ◌<◌, ◌≤◌, ◌⊎◌, List, [], ◌∷◌, ◌++◌, map, length, Some, None, slice_index_or, refl}
+use Rattle.std.specs.Prelude.{◌≡◌, ℕ, zero, suc, ◌+◌, ◌<◌, ◌≤◌, ◌⊎◌, List, [], ◌∷◌, ◌++◌, map, drop, length, Some, None, slice_index_or, refl}
 use Rattle.std.proofs.Common.{zero-add, suc-add, arith, inl, inr, ⊎_elim, sym, ap}
 use Rattle.std.specs.List.{slice_get, range_with_len}
 use Rattle.lts.specs.Meaning.{Meaning, Lawful, In}
@@ -86,3 +86,16 @@ module _ {most : ℕ} (m : Meaning) (law : Lawful most m) (s k a t : ℕ) (at : 
 
   pub listed_target : t < m.count
   listed_target = law.aims s a t (nth_in (a, t) (m.steps s) k (sym at))
+
+-- what is left of a list from place k on: its first stands at place k
+pub nth_first : {X : Type 0} (x : X) (xs ys : List X) (k : ℕ) → drop k xs ≡ x ∷ ys → (Some x ≡ slice_get xs k) × (k < length xs) × (ys ≡ drop (k + 1) xs)
+nth_first x [] ys zero e = let z : ◌≡◌ {A = ℕ} 0 1 = cc in let b : ⊥ = omega arith in absurd b
+nth_first x [] ys (suc k) e = let z : ◌≡◌ {A = ℕ} 0 1 = cc in let b : ⊥ = omega arith in absurd b
+nth_first x (y ∷ xs) ys zero e = let z : y ≡ x = cc in let w : xs ≡ ys = cc in (ap Some (sym z), omega arith, sym w)
+nth_first x (y ∷ xs) ys (suc k) e = let r = nth_first x xs ys k e in let q : suc k + 1 ≡ suc (k + 1) = omega arith in (r.0, omega arith, rw q r.2)
+
+-- nothing is left only past the end
+pub nth_last : {X : Type 0} (xs : List X) (k : ℕ) → drop k xs ≡ [] → length xs ≤ k
+nth_last [] k e = omega arith
+nth_last (y ∷ xs) zero e = let z : ◌≡◌ {A = ℕ} 0 1 = cc in omega arith
+nth_last (y ∷ xs) (suc k) e = let h = nth_last xs k e in omega arith

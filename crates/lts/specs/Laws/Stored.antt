@@ -22,11 +22,11 @@ rises_to p rises s (suc d) h =
     let last' : from p (s + d) ≤ from p (s + suc d) = rw e at last in
     omega arith
 
-module _ (p : Procedure) (some : 1 ≤ p.states) (few : p.states ≤ 128) (rises : (s : ℕ) → s < p.states → from p s ≤ from p (s + 1)) (room : from p p.states ≤ 512) (acts : (k : ℕ) → k < from p p.states → (step_at p k).0 ≤ 63) (aims : (k : ℕ) → k < from p p.states → (step_at p k).1 < p.states) where
+module _ (p : Procedure) (sound : Sound p) where
   -- the steps of a state end before those of the whole do
   pub all_room : (s : ℕ) → s < p.states → from p (s + 1) ≤ from p p.states
   all_room s l =
-      let r = rises_to p rises (s + 1) (p.states - (s + 1)) (omega arith) in
+      let r = rises_to p sound.rises (s + 1) (p.states - (s + 1)) (omega arith) in
       let e : s + 1 + (p.states - (s + 1)) ≡ p.states = omega arith in
       rw e at r
 
@@ -43,7 +43,7 @@ module _ (p : Procedure) (some : 1 ≤ p.states) (few : p.states ≤ 128) (rises
           let h' : In (a, t) (listed p s) = rw (lt-ltb s p.states l) at h in
           let r = from_map (step_at p) (a, t) (range_with_len (from p s) (from p (s + 1) - from p s)) h' in
           let b = in_counting r.0 (from p s) (from p (s + 1) - from p s) r.1 in
-          let up = rises s l in
+          let up = sound.rises s l in
           let end = all_room s l in
           (r.0, omega arith, r.2)
 
@@ -57,6 +57,7 @@ module _ (p : Procedure) (some : 1 ≤ p.states) (few : p.states ≤ 128) (rises
       inside l =
           let n = length-map-range_with_len (step_at p) (from p s) (from p (s + 1) - from p s) in
           let end = all_room s l in
+          let room = sound.room in
           rw (lt-ltb s p.states l) (omega arith)
 
       outside : p.states ≤ s → length ((stored p).steps s) ≤ 4096
@@ -67,7 +68,7 @@ module _ (p : Procedure) (some : 1 ≤ p.states) (few : p.states ≤ 128) (rises
   listed_acts s a t h =
       let r = placed s a t h in
       let e : a ≡ (step_at p r.0).0 = ap (λ (v : ℕ × ℕ). v.0) r.2 in
-      let k = acts r.0 r.1 in
+      let k = sound.acts r.0 r.1 in
       omega arith
 
   listed_aims : (s a t : ℕ) → In (a, t) ((stored p).steps s) → t < p.states
@@ -75,12 +76,9 @@ module _ (p : Procedure) (some : 1 ≤ p.states) (few : p.states ≤ 128) (rises
   listed_aims s a t h =
       let r = placed s a t h in
       let e : t ≡ (step_at p r.0).1 = ap (λ (v : ℕ × ℕ). v.1) r.2 in
-      let k = aims r.0 r.1 in
+      let k = sound.aims r.0 r.1 in
       omega arith
 
   pub stored_lawful : Lawful 128 (stored p)
   stored_lawful =
-      record { some = some; few = few; no_ends = λ s l. rw (le-ltb s p.states l); no_steps = λ s l. rw (le-ltb s p.states l); short = brief; acts = listed_acts; aims = listed_aims }
-
-pub sound_lawful : (p : Procedure) → Sound p → Lawful 128 (stored p)
-sound_lawful p h = stored_lawful p h.some h.few h.rises h.room h.acts h.aims
+      record { some = sound.some; few = sound.few; no_ends = λ s l. rw (le-ltb s p.states l); no_steps = λ s l. rw (le-ltb s p.states l); short = brief; acts = listed_acts; aims = listed_aims }

@@ -1,21 +1,27 @@
 // How an action map is made, and what it answers.
-ghost use Rattle.std.specs.Prelude.{◌≡◌};
+ghost use Rattle.std.specs.Prelude.{◌≡◌, ◌<◌, nat_lt, position, IfSome};
 ghost use Rattle.lts.specs.Map.{Made, entry, identity, Changed};
 
 use crate::action_map::ActionMap;
 use crate::map_fault::MapFault;
+
+// The place of the first entry that is no action.
+fn first_stranger(entries: &[u8; 64]) -> Option<usize>
+    ensures first { result ≡ position (λ action. nat_lt 63 action) entries.now }
+    ensures inside { IfSome result (λ place. place < 64) }
+{
+    entries.iter().position(|action| *action > 63)
+}
 
 impl ActionMap {
     // A map with these entries, unless one of them is no action: then the first of those is told.
     pub fn new(entries: [u8; 64]) -> Result<ActionMap, MapFault>
         ensures { Made entries result }
     {
-        for (i, action) in entries.iter().enumerate() {
-            if *action > 63 {
-                return Err(MapFault::Entry(i));
-            }
+        match first_stranger(&entries) {
+            Some(place) => Err(MapFault::Entry(place)),
+            None => Ok(ActionMap { entries }),
         }
-        Ok(ActionMap { entries })
     }
 
     // The map under which each action stands for itself.
@@ -23,8 +29,8 @@ impl ActionMap {
         ensures { result.entries ≡ identity }
     {
         let mut entries = [0; 64];
-        for i in 0..64 {
-            entries[i] = i as u8;
+        for (action, entry) in entries.iter_mut().enumerate() {
+            *entry = action as u8;
         }
         ActionMap { entries }
     }
@@ -45,9 +51,6 @@ impl ActionMap {
     pub fn get(&self, action: u8) -> Option<u8>
         ensures { result ≡ entry self.now.entries action }
     {
-        if action > 63 {
-            return None;
-        }
-        Some(self.entries[action as usize])
+        self.entries.get(action as usize).copied()
     }
 }

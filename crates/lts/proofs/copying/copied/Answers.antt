@@ -1,15 +1,15 @@
 use Rattle.std.proofs.Common.{◌≡◌, ◌≤◌, arith}
 use Rattle.lts.specs.Copying.{total}
 use Rattle.lts.specs.Filling.{Filled}
+use Rattle.lts.specs.Laws.Most.{narrow}
 use Rattle.lts.proofs.Copies.{same_copy, sound_copy}
 use Rattle.lts.proofs.copying.copied.Goals as goal
 
 pub returns : goal.returns
 returns g c =
-    let m = g.S.Source.meaning c.args.source.now in
-    let law = g.S.Source.lawful c.args.source.now in
-    let few = g.S.Source.bounded in
+    let m = g.S.System.meaning c.args.source.now in
+    let law = narrow (g.met.S.Source.fits c.args.source.now) g.S.Source.bounded (g.met.S.System.lawful c.args.source.now) in
     let room : total m ≤ 512 = omega (arith, c.step_total.ensures) in
     let e : c.loop-s.s ≡ m.count = omega (arith, c.states-s-end.ensures) in
     let filled : Filled m m.count 0 c.loop-s.copy = rw e at c.loop-s.invariant in
-    (room, sound_copy m law few c.loop-s.copy filled room, same_copy m law few c.loop-s.copy filled)
+    (room, sound_copy m law c.loop-s.copy filled room, same_copy m law c.loop-s.copy filled)

@@ -3,11 +3,11 @@ use Rattle.std.proofs.lemmas.List.FromFn.{fill_by_all}
 use Rattle.std.proofs.lemmas.List.Edits.{fill_by_more}
 use Rattle.lts.proofs.action_map.ActionMap.identity.Goals as goal
 
-pub loop-i-preserved : goal.loop-i-preserved
-loop-i-preserved c =
-    let i = c.loop-i.i in
-    let entries = c.loop-i.entries in
-    (length-set entries i i ∙ c.loop-i.invariant.0, fill_by_more (λ k. k) entries i 0 (omega arith) c.loop-i.invariant.1)
+pub loop-action-preserved : goal.loop-action-preserved
+loop-action-preserved c =
+    let i = c.loop-action.action in
+    let entries = c.loop-action.entry-items in
+    (length-set entries i i ∙ c.loop-action.invariant.0, fill_by_more (λ k. k) entries i 0 (omega arith) c.loop-action.invariant.1)
 
 pub returns : goal.returns
-returns c = fill_by_all (λ k. k) c.loop-i.entries 64 0 c.loop-i.invariant.0 (λ k l. c.loop-i.invariant.1 k (omega (arith, l)))
+returns c = fill_by_all (λ k. k) c.loop-action.entry-items 64 0 c.loop-action.invariant.0 (λ k l. c.loop-action.invariant.1 k (omega (arith, l)))

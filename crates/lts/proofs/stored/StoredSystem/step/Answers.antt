@@ -2,7 +2,7 @@ use Rattle.std.proofs.Common.{sym, arith, rules}
 use Rattle.std.proofs.lemmas.Option.{slice_get_past}
 use Rattle.lts.specs.Layout.{stored}
 use Rattle.lts.proofs.Reading.{placed, step_inside}
-use Rattle.lts.proofs.stored.StoredSource128.step.Goals as goal
+use Rattle.lts.proofs.stored.StoredSystem.step.Goals as goal
 
 pub returns-then-k-step_count : goal.returns-then-k-step_count
 returns-then-k-step_count c = sym (slice_get_past ((stored c.args.self.now.of.now).steps c.args.s) c.args.k (omega (arith, c.step_count.ensures)))

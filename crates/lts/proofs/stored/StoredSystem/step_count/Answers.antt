@@ -1,5 +1,5 @@
 use Rattle.lts.proofs.Reading.{count_inside}
-use Rattle.lts.proofs.stored.StoredSource128.step_count.Goals as goal
+use Rattle.lts.proofs.stored.StoredSystem.step_count.Goals as goal
 
 pub returns : goal.returns
 returns c = count_inside c.args.self.now.of.now c.args.s c.if-s-self.false
