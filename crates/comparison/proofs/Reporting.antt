@@ -50,18 +50,18 @@ module _ {X : Type 0} (n : ℕ) (xs ys : List X) (enough : n ≤ length xs) wher
       let size = length-take-le n xs enough in
       get_or_append_left (take n xs) (drop n ys) d i (omega arith) ∙ get_or-take n xs i d l
 
-module _ {a b : ℕ} (p q : Meaning) (law_p : Lawful a p) (law_q : Lawful b q) (few_p : a ≤ 128) (few_q : b ≤ 128) where
+module _ (p q : Meaning) (law_p : Lawful 128 p) (law_q : Lawful 128 q) where
   abbrev m : Meaning
   m = joined p q
 
   law : Lawful 256 m
-  law = joined_lawful p q law_p law_q few_p few_q
+  law = joined_lawful p q law_p law_q
 
   in_p : Inside p
-  in_p = lawful_inside a p law_p
+  in_p = lawful_inside 128 p law_p
 
   in_q : Inside q
-  in_q = lawful_inside b q law_q
+  in_q = lawful_inside 128 q law_q
 
   -- the right start stands behind the states of the left
   there : p.count + 0 ≡ p.count

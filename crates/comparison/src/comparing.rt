@@ -15,7 +15,7 @@ fn compare_pair<'a, 'b, const M: usize, const N: usize, L: Source<M>, R: Source<
     lines: &mut [Line],
     classes: &mut [u16],
 ) -> Result<Report, CompareFault>
-    ensures { Compared (L.Source.meaning system.now.left.now) (R.Source.meaning system.now.right.now) lines.old classes.old result lines.new classes.new }
+    ensures { Compared (L.System.meaning system.now.left.now) (R.System.meaning system.now.right.now) lines.old classes.old result lines.new classes.new }
 {
     let n = system.states();
     if lines.len() < 4 * n - 3 || classes.len() < n {
@@ -42,7 +42,7 @@ pub fn compare<const M: usize, const N: usize, L: Source<M>, R: Source<N>>(
     lines: &mut [Line],
     classes: &mut [u16],
 ) -> Result<Report, CompareFault>
-    ensures { Compared (L.Source.meaning left.now) (R.Source.meaning right.now) lines.old classes.old result lines.new classes.new }
+    ensures { Compared (L.System.meaning left.now) (R.System.meaning right.now) lines.old classes.old result lines.new classes.new }
 {
     compare_pair(&Pair::new(left, right), lines, classes)
 }

@@ -69,7 +69,7 @@ pub data Prints : Option Filled → Meaning → Answer → List ℕ → Type 0 w
 counted_same : (p q : Meaning) → Lawful 128 p → Lawful 128 q → {K L r t : ℕ} → Counted p q K r → Counted p q L t → (K ≡ L) × (r ≡ t)
 counted_same p q lp lq {K} {L} {r} {t} c d =
     let j = joined p q in
-    let closed = all_closed j (lawful_inside 256 j (joined_lawful p q lp lq (lit≤ tt) (lit≤ tt))) in
+    let closed = all_closed j (lawful_inside 256 j (joined_lawful p q lp lq)) in
     (class_count j (all_of j) K L c.numbers d.numbers closed c.classes d.classes, rounds_determined j (all_of j) r t c.rounds d.rounds)
 
 -- two formulas of the least depth have the same

@@ -3,7 +3,7 @@ ghost use Rattle.std.specs.Prelude.{◌≡◌, ◌+◌, ◌≤◌, not, ◌++◌
 ghost use Rattle.drawings.specs.Texts.{action_text, head_text, state_text, step_text, steps_text, foot_text, last_text, row_text, transitions_of, transitions, drawing};
 
 use crate::form::Form;
-use lts::Source;
+use lts::System;
 use std::alloc::{AllocError, Global};
 use std::fmt;
 
@@ -90,7 +90,7 @@ fn last(form: Form) -> &'static str
 }
 
 // The steps out of state s, in their order.
-fn push_steps<const N: usize, S: Source<N>>(
+fn push_steps<S: System>(
     out: &mut String,
     heap: Global,
     form: Form,
@@ -111,7 +111,7 @@ fn push_steps<const N: usize, S: Source<N>>(
 }
 
 // All that is told of state s.
-fn push_row<const N: usize, S: Source<N>>(
+fn push_row<S: System>(
     out: &mut String,
     heap: Global,
     form: Form,
@@ -130,7 +130,7 @@ fn push_row<const N: usize, S: Source<N>>(
 }
 
 // How many transitions out of state s the Aldebaran form has.
-fn row_transitions<const N: usize, S: Source<N>>(source: &S, s: usize) -> usize
+fn row_transitions<S: System>(source: &S, s: usize) -> usize
     ensures { (result ≡ transitions_of (S.meaning source.now) s) × (result ≤ 4097) }
 {
     let steps = source.step_count(s);
@@ -138,7 +138,7 @@ fn row_transitions<const N: usize, S: Source<N>>(source: &S, s: usize) -> usize
 }
 
 // How many transitions the Aldebaran form has.
-fn transition_count<const N: usize, S: Source<N>>(source: &S) -> usize
+fn transition_count<S: System>(source: &S) -> usize
     ensures { result ≡ transitions (S.meaning source.now) }
 {
     let mut total = 0;
@@ -149,7 +149,7 @@ fn transition_count<const N: usize, S: Source<N>>(source: &S) -> usize
 }
 
 // The whole procedure in a form.
-pub fn draw<const N: usize, S: Source<N>>(
+pub fn draw<S: System>(
     heap: Global,
     form: Form,
     source: &S,

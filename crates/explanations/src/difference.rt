@@ -12,7 +12,7 @@ use comparison::Verdict;
 use formulas::Line;
 use inputs::Word;
 use listings::push_lines;
-use lts::Source;
+use lts::System;
 use std::alloc::{AllocError, Global};
 
 fn sentence(heap: Global, line: u16, depth: u16) -> Result<String, AllocError>
@@ -24,7 +24,7 @@ fn sentence(heap: Global, line: u16, depth: u16) -> Result<String, AllocError>
 }
 
 // The lines, what this line shows, its formula, and the steps that it asks for first.
-fn push_difference<const N: usize, S: Source<N>>(
+fn push_difference<S: System>(
     out: &mut String,
     heap: Global,
     left: Word<'_>,
@@ -50,7 +50,7 @@ fn push_difference<const N: usize, S: Source<N>>(
 }
 
 // What is told behind the summary: nothing of procedures that are the same.
-pub fn push_outcome<const N: usize, S: Source<N>>(
+pub fn push_outcome<S: System>(
     out: &mut String,
     heap: Global,
     left: Word<'_>,

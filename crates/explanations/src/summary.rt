@@ -9,7 +9,7 @@ use comparison::{Report, Verdict};
 use drawings::{Form, draw};
 use inputs::{Given, Parsed, Word};
 use listings::push_classes;
-use lts::Source;
+use lts::System;
 use std::alloc::{AllocError, Global};
 use std::str::from_utf8;
 

@@ -10,7 +10,7 @@ use drawings::ActionName;
 use formulas::{Line, evaluate};
 use inputs::Word;
 use listings::action_offset;
-use lts::Source;
+use lts::System;
 use std::alloc::{AllocError, Global};
 
 // The marks of 1,021 lines at 128 states.
@@ -36,7 +36,7 @@ fn lead(lines: &[Line], i: usize) -> Option<(u8, u16)>
 }
 
 // The target of the first listed step of state s, by the action, to a state that the row marks.
-fn first_step<const N: usize, S: Source<N>>(
+fn first_step<S: System>(
     source: &S,
     s: usize,
     action: u8,
@@ -56,7 +56,7 @@ fn first_step<const N: usize, S: Source<N>>(
 }
 
 // The steps from the start on the way of line i, which holds there, by the marks of the lines.
-fn follow<const N: usize, S: Source<N>>(
+fn follow<S: System>(
     heap: Global,
     source: &S,
     lines: &[Line],
@@ -85,7 +85,7 @@ fn follow<const N: usize, S: Source<N>>(
 }
 
 // The steps from the start on the way of line i, which holds there.
-pub fn way<const N: usize, S: Source<N>>(
+pub fn way<S: System>(
     heap: Global,
     source: &S,
     lines: &[Line],

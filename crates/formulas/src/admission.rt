@@ -5,7 +5,7 @@ ghost use Rattle.formulas.specs.Faults.{misfit_from, first_fault};
 
 use crate::fault::EvaluationFault;
 use crate::line::Line;
-use lts::Source;
+use lts::System;
 
 // The most lines of a formula.
 const MOST_LINES: usize = 1024;
@@ -40,7 +40,7 @@ fn first_misfit(lines: &[Line]) -> Option<usize>
 }
 
 // The first row that refuses the evaluation of line i at state s of the source.
-pub(crate) fn refused<const N: usize, S: Source<N>>(
+pub(crate) fn refused<S: System>(
     source: &S,
     lines: &[Line],
     i: usize,

@@ -7,10 +7,10 @@ ghost use Rattle.formulas.specs.Evaluation.{Enters, RowsMarked, Ready, Evaluated
 use crate::admission::refused;
 use crate::fault::EvaluationFault;
 use crate::line::Line;
-use lts::Source;
+use lts::System;
 
 // Whether some step of state s by the action leads to a state that the row marks.
-fn steps_into<const N: usize, S: Source<N>>(source: &S, s: usize, action: u8, row: &[u8]) -> bool
+fn steps_into<S: System>(source: &S, s: usize, action: u8, row: &[u8]) -> bool
     requires { (S.meaning source.now).count ≤ length row.now }
     ensures { Decides result (Enters ((S.meaning source.now).steps s) action row.now) }
 {
@@ -25,7 +25,7 @@ fn steps_into<const N: usize, S: Source<N>>(source: &S, s: usize, action: u8, ro
 }
 
 // Whether line k holds at state s, where the lines before it are marked.
-fn holds<const N: usize, S: Source<N>>(
+fn holds<S: System>(
     source: &S,
     lines: &[Line],
     k: usize,
@@ -48,7 +48,7 @@ fn holds<const N: usize, S: Source<N>>(
 }
 
 // Marks line k at every state, where the lines before it are marked.
-fn mark_line<const N: usize, S: Source<N>>(source: &S, lines: &[Line], k: usize, work: &mut [u8])
+fn mark_line<S: System>(source: &S, lines: &[Line], k: usize, work: &mut [u8])
     requires { Ready (S.meaning source.now) lines.now k work.old }
     ensures marked { RowsMarked (S.meaning source.now) lines.now (k + 1) work.new }
     ensures kept { drop (length lines.now * (S.meaning source.now).count) work.new ≡ drop (length lines.now * (S.meaning source.now).count) work.old }
@@ -60,7 +60,7 @@ fn mark_line<const N: usize, S: Source<N>>(source: &S, lines: &[Line], k: usize,
 }
 
 // Whether the line holds at the state of the source. The working buffer then marks every line at every state.
-pub fn evaluate<const N: usize, S: Source<N>>(
+pub fn evaluate<S: System>(
     source: &S,
     lines: &[Line],
     line: usize,

@@ -3,10 +3,11 @@ ghost use Rattle.std.proofs.Common.{lit≤};
 ghost use Rattle.std.specs.Prelude.{◌≡◌, IfOk};
 ghost use Rattle.inputs.specs.Inputs.{first_refusal_of, Denotes, meaning_of, refusal_of};
 ghost use Rattle.inputs.specs.Laws.{parsed_lawful};
+ghost use Rattle.lts.specs.Laws.Most.{wider};
 
 use crate::fault::InputFault;
 use crate::input::Input;
-use lts::{Most, Source};
+use lts::{Most, Source, System};
 use tables::Table;
 use terms::Term;
 
@@ -29,14 +30,10 @@ impl Parsed {
     }
 }
 
-impl Source<128> for Parsed {
-    const MOST: Most<128> = Most { states: 128 };
-
-    ghost bounded = { lit≤ tt };
-
+impl System for Parsed {
     ghost meaning = { meaning_of };
 
-    ghost lawful = { parsed_lawful };
+    ghost lawful = { λ x. wider (lit≤ tt) (parsed_lawful x) };
 
     fn states(&self) -> usize {
         match self {
@@ -65,4 +62,12 @@ impl Source<128> for Parsed {
             Parsed::Table(table) => table.step(s, k),
         }
     }
+}
+
+impl Source<128> for Parsed {
+    const MOST: Most<128> = Most { states: 128 };
+
+    ghost bounded = { lit≤ tt };
+
+    ghost fits = { λ x. (parsed_lawful x).few };
 }

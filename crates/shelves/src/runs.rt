@@ -91,7 +91,7 @@ impl Shelf {
 
     // One call of a list.
     fn perform<const N: usize, S: Source<N>>(&mut self, call: &ShelfCall<S>) -> Outcome
-        ensures { Performed (account_of self.old) (call_of S.Source.meaning call.now) result (account_of self.new) }
+        ensures { Performed (account_of self.old) (call_of S.System.meaning call.now) result (account_of self.new) }
     {
         match call {
             ShelfCall::File { slot, source } => settled(self.file(*slot, source)),
@@ -121,7 +121,7 @@ pub fn run<const N: usize, S: Source<N>>(
     calls: &[ShelfCall<S>],
     answers: &mut [Outcome],
 ) -> Option<Shelf>
-    ensures { Ran number (map (call_of S.Source.meaning) calls.now) answers.old result answers.new }
+    ensures { Ran number (map (call_of S.System.meaning) calls.now) answers.old result answers.new }
 {
     if answers.len() < calls.len() {
         return None;

@@ -1,6 +1,6 @@
 // Files at every row and edge, and what a table answers.
 use crate::table::Table;
-use lts::Source;
+use lts::System;
 use refusals::{Fault, Layer, Refusal};
 use std::test::Fail;
 

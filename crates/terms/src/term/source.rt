@@ -1,6 +1,7 @@
 // A term read as a source: its states are the places in its text.
 ghost use Rattle.std.specs.Prelude.{◌≡◌, ◌<◌, ◌≤◌, MatchOption};
 ghost use Rattle.std.proofs.Common.{lit≤};
+ghost use Rattle.lts.specs.Laws.Most.{wider};
 ghost use Rattle.terms.specs.Graph.{graph};
 ghost use Rattle.terms.specs.Laws.Lawful.{term_lawful};
 ghost use Rattle.terms.specs.Lists.{run_of};
@@ -8,7 +9,7 @@ ghost use Rattle.terms.specs.Terms.{tree_of};
 
 use crate::run::Run;
 use crate::term::Term;
-use lts::{Most, Source};
+use lts::{Most, Source, System};
 
 impl Term {
     // The steps of a state, if there is such a state.
@@ -22,14 +23,10 @@ impl Term {
     }
 }
 
-impl Source<64> for Term {
-    const MOST: Most<64> = Most { states: 64 };
-
-    ghost bounded = { lit≤ tt };
-
+impl System for Term {
     ghost meaning = { λ x. graph (tree_of x) };
 
-    ghost lawful = { term_lawful };
+    ghost lawful = { λ x. wider (lit≤ tt) (term_lawful x) };
 
     fn states(&self) -> usize {
         self.actions as usize + 1
@@ -58,4 +55,12 @@ impl Source<64> for Term {
         }
         Some(self.listing.steps[run.from as usize + k])
     }
+}
+
+impl Source<64> for Term {
+    const MOST: Most<64> = Most { states: 64 };
+
+    ghost bounded = { lit≤ tt };
+
+    ghost fits = { λ x. (term_lawful x).few };
 }

@@ -8,7 +8,7 @@ use Rattle.comparison.proofs.ends.by_ends.Goals as goal
 pub returns-then-count-eq1 : goal.returns-then-count-eq1
 returns-then-count-eq1 g c =
     let m = g.S.System.meaning c.args.system.now in
-    let law = g.S.System.lawful c.args.system.now in
+    let law = g.met.S.System.lawful c.args.system.now in
     let lines : written c.push-all.new.self ≡ with_line [] True = c.push-all.ensures.lines ∙ ap (λ (ls : List Line). with_line ls True) c.requires in
     let first : c.push-all.result ≡ 0 = c.push-all.ensures.number ∙ ap length c.requires in
     one_class m law c.end_classes-count.result.0 c.end_classes-count.result.1 c.end_classes-count.ensures (written c.push-all.new.self) (replicate 256 c.push-all.result) lines c.if-count-eq1.true refl first
@@ -16,7 +16,7 @@ returns-then-count-eq1 g c =
 pub returns-then-is_end : goal.returns-then-is_end
 returns-then-is_end g c =
     let m = g.S.System.meaning c.args.system.now in
-    let law = g.S.System.lawful c.args.system.now in
+    let law = g.met.S.System.lawful c.args.system.now in
     let one : written c.push-ends.new.self ≡ with_line [] End = c.push-ends.ensures.lines ∙ ap (λ (ls : List Line). with_line ls End) c.requires in
     let zero : c.push-ends.result ≡ 0 = c.push-ends.ensures.number ∙ ap length c.requires in
     let first : c.push-others.result ≡ 1 = c.push-others.ensures.number ∙ ap length one in
@@ -26,7 +26,7 @@ returns-then-is_end g c =
 pub returns-else-is_end : goal.returns-else-is_end
 returns-else-is_end g c =
     let m = g.S.System.meaning c.args.system.now in
-    let law = g.S.System.lawful c.args.system.now in
+    let law = g.met.S.System.lawful c.args.system.now in
     let one : written c.push-ends.new.self ≡ with_line [] End = c.push-ends.ensures.lines ∙ ap (λ (ls : List Line). with_line ls End) c.requires in
     let zero : c.push-ends.result ≡ 0 = c.push-ends.ensures.number ∙ ap length c.requires in
     let first : c.push-others.result ≡ 1 = c.push-others.ensures.number ∙ ap length one in

@@ -9,14 +9,14 @@ use Rattle.comparison.proofs.layout.lay_state.Goals.{in-Some+then-put+else-to-eq
 pub put-requires : goal.put-requires
 put-requires g c =
     let m = g.S.System.meaning c.args.system.now in
-    let law = g.S.System.lawful c.args.system.now in
+    let law = g.met.S.System.lawful c.args.system.now in
     let few = law.few in
     record { action = listed_action m law c.args.s c.loop-k.k c.in-Some.action c.in-Some.target c.in-Some.ensures; class = let t = listed_target m law c.args.s c.loop-k.k c.in-Some.action c.in-Some.target c.in-Some.ensures in omega arith }
 
 pub loop-k-preserved : goal.loop-k-preserved
 loop-k-preserved g c =
     let m = g.S.System.meaning c.args.system.now in
-    let law = g.S.System.lawful c.args.system.now in
+    let law = g.met.S.System.lawful c.args.system.now in
     let few = law.few in
     let s = c.args.s in
     let k = c.loop-k.k in
@@ -46,7 +46,7 @@ loop-k-preserved g c =
 pub returns : goal.returns
 returns g c =
     let m = g.S.System.meaning c.args.system.now in
-    let law = g.S.System.lawful c.args.system.now in
+    let law = g.met.S.System.lawful c.args.system.now in
     let few = law.few in
     let state = c.requires.state in
     let i = c.args.to.now.used in

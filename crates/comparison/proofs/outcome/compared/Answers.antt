@@ -7,7 +7,7 @@ use Rattle.comparison.proofs.outcome.compared.Goals as goal
 pub invariant_of-flat : goal.invariant_of-flat
 invariant_of-flat g c =
     let m = g.S.System.meaning c.args.system.now in
-    let law = g.S.System.lawful c.args.system.now in
+    let law = g.met.S.System.lawful c.args.system.now in
     let p = c.lay_out.new.to in
     let h = c.lay_out.ensures c.if-lay_out.true in
     let n = h.states in
@@ -30,7 +30,7 @@ refine_all-requires g c =
 pub returns-then-lay_out : goal.returns-then-lay_out
 returns-then-lay_out g c =
     let m = g.S.System.meaning c.args.system.now in
-    let law = g.S.System.lawful c.args.system.now in
+    let law = g.met.S.System.lawful c.args.system.now in
     let p = c.lay_out.new.to in
     let h = c.lay_out.ensures c.if-lay_out.true in
     compares_same (laid p) m (laid_same m law p h) c.args.right (written c.refine_all.new.script) c.refine_all.result c.refine_all.ensures

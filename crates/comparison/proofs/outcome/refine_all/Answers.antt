@@ -9,7 +9,7 @@ use Rattle.comparison.proofs.outcome.refine_all.Goals as goal
 pub watch-starts-requires : goal.watch-starts-requires
 watch-starts-requires g c =
     let m = g.S.System.meaning c.args.system.now in
-    let law = g.S.System.lawful c.args.system.now in
+    let law = g.met.S.System.lawful c.args.system.now in
     let h = c.loop-k.invariant.0 in
     let few = standing_few m law c.loop-k.k (written c.loop-k.script) c.loop-k.classes h in
     let start = start_low m law c.loop-k.k (written c.loop-k.script) c.loop-k.classes h in
@@ -21,7 +21,7 @@ watch-starts-requires g c =
 pub returns-then-next-classes : goal.returns-then-next-classes
 returns-then-next-classes g c =
     let m = g.S.System.meaning c.args.system.now in
-    let law = g.S.System.lawful c.args.system.now in
+    let law = g.met.S.System.lawful c.args.system.now in
     let inv = c.loop-k.invariant in
     let done = ends_here m law c.loop-k.k (written c.loop-k.script) c.loop-k.classes inv.0 (written c.refined-next.new.script) c.refined-next.result c.refined-next.ensures.standing c.args.right c.requires.inside c.refined-next.ensures.kept c.loop-k.starts inv.1 inv.2 inv.3 c.if-next-classes.true in
     subst (λ (t : Starts). Compares m c.args.right (written c.refined-next.new.script) (record { classes = c.loop-k.classes; rounds = c.loop-k.k; starts = t })) (sym c.watch-starts.ensures) done
@@ -29,7 +29,7 @@ returns-then-next-classes g c =
 pub unreachable-requires : goal.unreachable-requires
 unreachable-requires g c =
     let m = g.S.System.meaning c.args.system.now in
-    let law = g.S.System.lawful c.args.system.now in
+    let law = g.met.S.System.lawful c.args.system.now in
     let few = standing_few m law c.loop-k.k (written c.loop-k.script) c.loop-k.classes c.loop-k.invariant.0 in
     let low = c.loop-k.invariant.3 in
     let all = c.requires.few in
@@ -38,7 +38,7 @@ unreachable-requires g c =
 pub loop-k-preserved : goal.loop-k-preserved
 loop-k-preserved g c =
     let m = g.S.System.meaning c.args.system.now in
-    let law = g.S.System.lawful c.args.system.now in
+    let law = g.met.S.System.lawful c.args.system.now in
     let inv = c.loop-k.invariant in
     let on = goes_on m law c.loop-k.k (written c.loop-k.script) c.loop-k.classes inv.0 (written c.refined-next.new.script) c.refined-next.result c.refined-next.ensures.standing c.args.right c.requires.inside c.refined-next.ensures.kept c.loop-k.starts inv.1 inv.2 inv.3 c.if-next-classes.false in
     (c.refined-next.ensures.standing, subst (λ (t : Starts). Found m c.args.right (written c.refined-next.new.script) (c.loop-k.k + 1) t) (sym c.watch-starts.ensures) on.0, on.1, on.2)

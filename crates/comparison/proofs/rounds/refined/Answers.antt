@@ -16,7 +16,7 @@ loop-s-init g c =
 pub returns : goal.returns
 returns g c =
     let m = g.S.System.meaning c.args.system.now in
-    let law = g.S.System.lawful c.args.system.now in
+    let law = g.met.S.System.lawful c.args.system.now in
     let all : m.count ≤ c.loop-s.s = omega (arith, c.states-s-end.ensures) in
     let done = closing m law c.args.k c.loop-s.s c.args.old.now (written c.loop-s.script) c.loop-s.draft c.loop-s.invariant.0 all in
     record { standing = rw add-one done; kept = c.loop-s.invariant.3 }

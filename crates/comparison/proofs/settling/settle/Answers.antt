@@ -13,23 +13,23 @@ use Rattle.comparison.proofs.settling.settle.Goals as goal
 
 pub mark-pairs-requires : goal.mark-pairs-requires
 mark-pairs-requires g c =
-    classes_low (g.S.System.meaning c.args.system.now) (g.S.System.lawful c.args.system.now) (omega arith) c.args.k c.args.s c.args.old.now (written c.args.script.now) c.args.draft.now c.requires.working c.requires.state
+    classes_low (g.S.System.meaning c.args.system.now) (g.met.S.System.lawful c.args.system.now) (omega arith) c.args.k c.args.s c.args.old.now (written c.args.script.now) c.args.draft.now c.requires.working c.requires.state
 
 pub sent-d-requires : goal.sent-d-requires
 sent-d-requires g c =
     let w = c.requires.working in
-    let few = classes_few (g.S.System.meaning c.args.system.now) (g.S.System.lawful c.args.system.now) (omega arith) c.args.k c.args.s c.args.old.now (written c.args.script.now) c.args.draft.now w c.requires.state in
-    record { linked = c.requires.linked; size = w.splits_size; room = let e = w.counted in omega arith; low = classes_low (g.S.System.meaning c.args.system.now) (g.S.System.lawful c.args.system.now) (omega arith) c.args.k c.args.s c.args.old.now (written c.args.script.now) c.args.draft.now w c.requires.state c.args.s c.requires.state; drawn = w.drawn }
+    let few = classes_few (g.S.System.meaning c.args.system.now) (g.met.S.System.lawful c.args.system.now) (omega arith) c.args.k c.args.s c.args.old.now (written c.args.script.now) c.args.draft.now w c.requires.state in
+    record { linked = c.requires.linked; size = w.splits_size; room = let e = w.counted in omega arith; low = classes_low (g.S.System.meaning c.args.system.now) (g.met.S.System.lawful c.args.system.now) (omega arith) c.args.k c.args.s c.args.old.now (written c.args.script.now) c.args.draft.now w c.requires.state c.args.s c.requires.state; drawn = w.drawn }
 
 pub leader-requires : goal.leader-requires
 leader-requires g c =
-    record { size = c.requires.working.leaders_size; class = lands_low (g.S.System.meaning c.args.system.now) (g.S.System.lawful c.args.system.now) (omega arith) c.args.k c.args.s c.args.old.now (written c.args.script.now) c.args.draft.now c.requires.working c.requires.state c.mark-pairs.new.self c.mark-pairs.ensures.reached c.sent-d.result c.sent-d.ensures }
+    record { size = c.requires.working.leaders_size; class = lands_low (g.S.System.meaning c.args.system.now) (g.met.S.System.lawful c.args.system.now) (omega arith) c.args.k c.args.s c.args.old.now (written c.args.script.now) c.args.draft.now c.requires.working c.requires.state c.mark-pairs.new.self c.mark-pairs.ensures.reached c.sent-d.result c.sent-d.ensures }
 
 pub lead-requires : goal.lead-requires
 lead-requires g c =
     let w = c.requires.working in
-    let low = lands_low (g.S.System.meaning c.args.system.now) (g.S.System.lawful c.args.system.now) (omega arith) c.args.k c.args.s c.args.old.now (written c.args.script.now) c.args.draft.now w c.requires.state c.mark-pairs.new.self c.mark-pairs.ensures.reached c.sent-d.result c.sent-d.ensures in
-    let few = (g.S.System.lawful c.args.system.now).few in
+    let low = lands_low (g.S.System.meaning c.args.system.now) (g.met.S.System.lawful c.args.system.now) (omega arith) c.args.k c.args.s c.args.old.now (written c.args.script.now) c.args.draft.now w c.requires.state c.mark-pairs.new.self c.mark-pairs.ensures.reached c.sent-d.result c.sent-d.ensures in
+    let few = (g.met.S.System.lawful c.args.system.now).few in
     let state = c.requires.state in
     let a = w.class_size in
     let b = w.leaders_size in
@@ -38,7 +38,7 @@ lead-requires g c =
 pub returns-in_default : goal.returns-in_default
 returns-in_default g c =
     let m = g.S.System.meaning c.args.system.now in
-    let law = g.S.System.lawful c.args.system.now in
+    let law = g.met.S.System.lawful c.args.system.now in
     let is = lands_at m law (omega arith) c.args.k c.args.s c.args.old.now (written c.args.script.now) c.args.draft.now c.requires.working c.requires.state c.mark-pairs.new.self c.mark-pairs.ensures.reached c.sent-d.result c.sent-d.ensures in
     let works = lead_works m c.args.k c.args.s c.args.old.now (written c.args.script.now) c.args.draft.now c.requires.working c.requires.state law.few c.sent-d.result is (λ l e. let f = c.in_default.ensures in let z : ◌≡◌ {A = ℕ} 0 1 = cc in let b : ⊥ = omega arith in absurd b) in
     record {
@@ -50,18 +50,18 @@ returns-in_default g c =
 
 pub contrast-requires : goal.contrast-requires
 contrast-requires g c =
-    record { pairs = c.mark-pairs.ensures.weighed; leads = (let few = (g.S.System.lawful c.args.system.now).few in let state = c.requires.state in let led = (c.requires.working.leads c.sent-d.result c.in-Some.leader (sym c.in-Some.ensures)).0 in (more_weighed (g.S.System.meaning c.args.system.now) (numbers c.args.old.now.class) c.args.s c.mark-pairs.result c.args.weights.now (omega arith) c.mark-pairs.ensures.weighed c.requires.weighed).each c.in-Some.leader (omega arith)); classes = classes_low (g.S.System.meaning c.args.system.now) (g.S.System.lawful c.args.system.now) (omega arith) c.args.k c.args.s c.args.old.now (written c.args.script.now) c.args.draft.now c.requires.working c.requires.state; reached = c.mark-pairs.ensures.reached }
+    record { pairs = c.mark-pairs.ensures.weighed; leads = (let few = (g.met.S.System.lawful c.args.system.now).few in let state = c.requires.state in let led = (c.requires.working.leads c.sent-d.result c.in-Some.leader (sym c.in-Some.ensures)).0 in (more_weighed (g.S.System.meaning c.args.system.now) (numbers c.args.old.now.class) c.args.s c.mark-pairs.result c.args.weights.now (omega arith) c.mark-pairs.ensures.weighed c.requires.weighed).each c.in-Some.leader (omega arith)); classes = classes_low (g.S.System.meaning c.args.system.now) (g.met.S.System.lawful c.args.system.now) (omega arith) c.args.k c.args.s c.args.old.now (written c.args.script.now) c.args.draft.now c.requires.working c.requires.state; reached = c.mark-pairs.ensures.reached }
 
 pub found-requires : goal.found-requires
 found-requires g c =
     let m = g.S.System.meaning c.args.system.now in
-    let law = g.S.System.lawful c.args.system.now in
+    let law = g.met.S.System.lawful c.args.system.now in
     let is = lands_at m law (omega arith) c.args.k c.args.s c.args.old.now (written c.args.script.now) c.args.draft.now c.requires.working c.requires.state c.mark-pairs.new.self c.mark-pairs.ensures.reached c.sent-d.result c.sent-d.ensures in
     record { state = c.requires.state; working = c.requires.working; parting = parting_at m c.args.s c.args.old.now c.args.draft.now c.in-Some.leader c.sent-d.result c.in-Some-contrast.split is c.in-Some.ensures c.in-Some-contrast.ensures }
 
 pub bounds-weights-leader : goal.bounds-weights-leader
 bounds-weights-leader g c =
-    let few = (g.S.System.lawful c.args.system.now).few in
+    let few = (g.met.S.System.lawful c.args.system.now).few in
     let state = c.requires.state in
     let led = (c.requires.working.leads c.sent-d.result c.in-Some.leader (sym c.in-Some.ensures)).0 in
     omega arith
@@ -75,8 +75,8 @@ overflow_cast-weights g c =
 pub follow-requires : goal.follow-requires
 follow-requires g c =
     let w = c.requires.working in
-    let low = lands_low (g.S.System.meaning c.args.system.now) (g.S.System.lawful c.args.system.now) (omega arith) c.args.k c.args.s c.args.old.now (written c.args.script.now) c.args.draft.now w c.requires.state c.mark-pairs.new.self c.mark-pairs.ensures.reached c.sent-d.result c.sent-d.ensures in
-    let few = (g.S.System.lawful c.args.system.now).few in
+    let low = lands_low (g.S.System.meaning c.args.system.now) (g.met.S.System.lawful c.args.system.now) (omega arith) c.args.k c.args.s c.args.old.now (written c.args.script.now) c.args.draft.now w c.requires.state c.mark-pairs.new.self c.mark-pairs.ensures.reached c.sent-d.result c.sent-d.ensures in
+    let few = (g.met.S.System.lawful c.args.system.now).few in
     let state = c.requires.state in
     let a = w.class_size in
     let b = w.leaders_size in
@@ -85,7 +85,7 @@ follow-requires g c =
 pub returns-in-None : goal.returns-in-None
 returns-in-None g c =
     let m = g.S.System.meaning c.args.system.now in
-    let law = g.S.System.lawful c.args.system.now in
+    let law = g.met.S.System.lawful c.args.system.now in
     let few = law.few in
     let state = c.requires.state in
     let d = c.sent-d.result in
@@ -108,7 +108,7 @@ returns-in-None g c =
 pub add-requires : goal.add-requires
 add-requires g c =
     let m = g.S.System.meaning c.args.system.now in
-    let law = g.S.System.lawful c.args.system.now in
+    let law = g.met.S.System.lawful c.args.system.now in
     let w = c.requires.working in
     let is = lands_at m law (omega arith) c.args.k c.args.s c.args.old.now (written c.args.script.now) c.args.draft.now w c.requires.state c.mark-pairs.new.self c.mark-pairs.ensures.reached c.sent-d.result c.sent-d.ensures in
     let low = lands_low m law (omega arith) c.args.k c.args.s c.args.old.now (written c.args.script.now) c.args.draft.now w c.requires.state c.mark-pairs.new.self c.mark-pairs.ensures.reached c.sent-d.result c.sent-d.ensures in
@@ -121,7 +121,7 @@ add-requires g c =
 pub returns-in-Some-contrast : goal.returns-in-Some-contrast
 returns-in-Some-contrast g c =
     let m = g.S.System.meaning c.args.system.now in
-    let few = (g.S.System.lawful c.args.system.now).few in
+    let few = (g.met.S.System.lawful c.args.system.now).few in
     let state = c.requires.state in
     let done = c.found.ensures in
     record {

@@ -4,24 +4,24 @@ use Rattle.drawings.proofs.procedure.push_steps.Goals as goal
 
 pub overflow_add-k : goal.overflow_add-k
 overflow_add-k g c =
-    let m = g.S.Source.meaning c.args.source.now in
+    let m = g.S.System.meaning c.args.source.now in
     let h = (nth_drop (m.steps c.args.s) c.loop-action.k (c.in-Some.action, c.in-Some.target) c.in-Some.ensures).0 in
-    let n = (g.S.Source.lawful c.args.source.now).short c.args.s in
+    let n = (g.met.S.System.lawful c.args.source.now).short c.args.s in
     let b : c.loop-action.k < 4096 = omega arith in
     search rules
 
 pub loop-action-smaller : goal.loop-action-smaller
 loop-action-smaller g c =
-    let m = g.S.Source.meaning c.args.source.now in
+    let m = g.S.System.meaning c.args.source.now in
     let h = (nth_drop (m.steps c.args.s) c.loop-action.k (c.in-Some.action, c.in-Some.target) c.in-Some.ensures).0 in
     omega arith
 
 pub loop-action-preserved : goal.loop-action-preserved
 loop-action-preserved g c =
-    stepped_more c.args.form c.args.s c.args.end ((g.S.Source.meaning c.args.source.now).steps c.args.s) c.loop-action.k (string_bytes c.args.out.now) (string_bytes c.loop-action.out)
+    stepped_more c.args.form c.args.s c.args.end ((g.S.System.meaning c.args.source.now).steps c.args.s) c.loop-action.k (string_bytes c.args.out.now) (string_bytes c.loop-action.out)
     (c.in-Some.action, c.in-Some.target) c.as_str.result.now (string_bytes c.push_str.new.self) c.in-Some.ensures (c.as_str.ensures.value ∙ c.in_ok-text.ensures) c.in_ok-push_str.ensures.bytes c.loop-action.invariant
 
 pub returns : goal.returns
 returns g c =
-    let m = g.S.Source.meaning c.args.source.now in
+    let m = g.S.System.meaning c.args.source.now in
     stepped_all c.args.form c.args.s c.args.end (m.steps c.args.s) c.loop-action.k (string_bytes c.args.out.now) (string_bytes c.loop-action.out) c.in_default.ensures c.loop-action.invariant

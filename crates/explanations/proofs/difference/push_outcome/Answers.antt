@@ -6,7 +6,7 @@ use Rattle.explanations.proofs.difference.push_outcome.Goals as goal
 
 pub push_difference-requires : goal.push_difference-requires
 push_difference-requires g c =
-    let m = g.S.Source.meaning c.args.source.now in
+    let m = g.S.System.meaning c.args.source.now in
     let u : Usable m c.in-Different.count c.in-Different.line c.args.lines.now = rw c.in-Different.is at c.requires in
     let l = length-take-le c.in-Different.count c.args.lines.now u.room in
     let r = marks_room m c.in-Different.count c.in-Different.line c.args.lines.now u in

@@ -9,7 +9,7 @@ use Rattle.formulas.proofs.evaluation.evaluate.Goals as goal
 
 pub mark_line-requires : goal.mark_line-requires
 mark_line-requires g c =
-    let m = g.S.Source.meaning c.args.source.now in
+    let m = g.S.System.meaning c.args.source.now in
     let ls = c.args.lines.now in
     let room = length c.args.work.now in
     let a = admitted ls c.args.line c.args.state m.count room c.in_default.ensures in
@@ -17,7 +17,7 @@ mark_line-requires g c =
 
 pub bounds-work-line : goal.bounds-work-line
 bounds-work-line g c =
-    let m = g.S.Source.meaning c.args.source.now in
+    let m = g.S.System.meaning c.args.source.now in
     let ls = c.args.lines.now in
     let room = length c.args.work.now in
     let e = c.states.ensures in
@@ -26,7 +26,7 @@ bounds-work-line g c =
 
 pub returns : goal.returns
 returns g c =
-    let m = g.S.Source.meaning c.args.source.now in
+    let m = g.S.System.meaning c.args.source.now in
     let ls = c.args.lines.now in
     let e = c.states.ensures in
     let room = length c.args.work.now in

@@ -60,4 +60,4 @@ returns-else-work-i-eq1 g c =
 
 pub returns-in-Step : goal.returns-in-Step
 returns-in-Step g c =
-    holds_step c.requires.ready c.states-n.ensures c.in-Step.is (g.S.Source.lawful c.args.source.now) c.args.s c.steps_into.result c.steps_into.ensures
+    holds_step c.requires.ready c.states-n.ensures c.in-Step.is (g.met.S.System.lawful c.args.source.now) c.args.s c.steps_into.result c.steps_into.ensures

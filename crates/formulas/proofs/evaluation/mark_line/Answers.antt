@@ -8,11 +8,11 @@ use Rattle.formulas.proofs.evaluation.mark_line.Goals as goal
 pub bounds-work-k : goal.bounds-work-k
 bounds-work-k g c =
     let e = c.states-n.ensures in
-    place_in_table c.args.k c.loop-s.s (length c.args.lines.now) (g.S.Source.meaning c.args.source.now).count c.states-n.result (length c.loop-s.work) e c.requires.inside (omega arith) (omega (arith, c.requires.room))
+    place_in_table c.args.k c.loop-s.s (length c.args.lines.now) (g.S.System.meaning c.args.source.now).count c.states-n.result (length c.loop-s.work) e c.requires.inside (omega arith) (omega (arith, c.requires.room))
 
 pub loop-s-preserved : goal.loop-s-preserved
 loop-s-preserved g c =
-    let m = g.S.Source.meaning c.args.source.now in
+    let m = g.S.System.meaning c.args.source.now in
     let ls = c.args.lines.now in
     let k = c.args.k in
     let s = c.loop-s.s in
@@ -27,7 +27,7 @@ loop-s-preserved g c =
 
 pub returns : goal.returns
 returns g c =
-    let m = g.S.Source.meaning c.args.source.now in
+    let m = g.S.System.meaning c.args.source.now in
     let e : c.loop-s.s ≡ m.count = omega (arith, c.states-n.ensures) in
     let row : RowMarked m c.args.lines.now c.args.k m.count c.loop-s.work = rw e at c.loop-s.invariant.1 in
     record { marked = rows_more m c.args.lines.now c.args.k c.loop-s.work c.loop-s.invariant.0 row; kept = c.loop-s.invariant.2 }

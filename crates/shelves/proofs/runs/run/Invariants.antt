@@ -4,4 +4,4 @@ use Rattle.shelves.proofs.Running.{Through}
 use Rattle.shelves.proofs.runs.run.Given as goal
 
 abbrev pub invariant-loop-k : goal.invariant-loop-k
-invariant-loop-k g l = Through (call_of g.S.Source.meaning) l.number l.calls l.initial.answers l.k l.answers (account_of l.shelf)
+invariant-loop-k g l = Through (call_of g.S.System.meaning) l.number l.calls l.initial.answers l.k l.answers (account_of l.shelf)

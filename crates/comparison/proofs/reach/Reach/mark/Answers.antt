@@ -12,7 +12,7 @@ loop-k-init g c = (λ a b x y. c.clear.ensures _, total_none c.clear.new.self c.
 pub put-requires : goal.put-requires
 put-requires g c =
     let m = g.S.System.meaning c.args.system.now in
-    let law = g.S.System.lawful c.args.system.now in
+    let law = g.met.S.System.lawful c.args.system.now in
     record { action = listed_action m law c.args.t c.loop-k.k c.in-Some.action c.in-Some.target c.in-Some.ensures; class = c.requires c.in-Some.target (listed_target m law c.args.t c.loop-k.k c.in-Some.action c.in-Some.target c.in-Some.ensures) }
 
 pub overflow_add-pairs : goal.overflow_add-pairs
@@ -22,7 +22,7 @@ pub loop-k-preserved : goal.loop-k-preserved
 loop-k-preserved g c =
     let n = numbers c.args.class.now in
     let m = g.S.System.meaning c.args.system.now in
-    let law = g.S.System.lawful c.args.system.now in
+    let law = g.met.S.System.lawful c.args.system.now in
     let xs = m.steps c.args.t in
     let k = c.loop-k.k in
     elim c.match-step.branch [

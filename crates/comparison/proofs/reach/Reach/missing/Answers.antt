@@ -8,13 +8,13 @@ use Rattle.comparison.proofs.reach.Reach.missing.Goals.{in-Some+else-not-has, in
 pub has-requires : goal.has-requires
 has-requires g c =
     let m = g.S.System.meaning c.args.system.now in
-    let law = g.S.System.lawful c.args.system.now in
+    let law = g.met.S.System.lawful c.args.system.now in
     record { action = listed_action m law c.args.t c.loop-k.k c.in-Some.action c.in-Some.target c.in-Some.ensures; class = c.requires c.in-Some.target (listed_target m law c.args.t c.loop-k.k c.in-Some.action c.in-Some.target c.in-Some.ensures) }
 
 pub returns-then-not-has : goal.returns-then-not-has
 returns-then-not-has g c =
     let m = g.S.System.meaning c.args.system.now in
-    let law = g.S.System.lawful c.args.system.now in
+    let law = g.met.S.System.lawful c.args.system.now in
     let xs = m.steps c.args.t in
     let a = c.in-Some.action in
     let u = c.in-Some.target in

@@ -2,7 +2,7 @@ use Rattle.std.proofs.Common.{length}
 use Rattle.std.proofs.lemmas.Result.{err_from_is_err_and}
 use Rattle.accounts.specs.Account.{with_pending}
 use Rattle.accounts.specs.Calls.{submit, called_same}
-use Rattle.lts.specs.Laws.Most.{lawful_most}
+use Rattle.lts.specs.Laws.Most.{narrow}
 use Rattle.shelves.specs.Moves.{account_of}
 use Rattle.shelves.specs.Standing.{filled}
 use Rattle.shelves.proofs.Moving.{moves, put_does, put_ghost, slot_of}
@@ -12,8 +12,8 @@ use Rattle.shelves.proofs.shelf.Shelf.submit.Goals as goal
 
 pub returns-in_err-row : goal.returns-in_err-row
 returns-in_err-row g c =
-    let m = g.S.Source.meaning c.args.source.now in
-    let law = lawful_most g.row.N m g.S.Source.bounded (g.S.Source.lawful c.args.source.now) in
+    let m = g.S.System.meaning c.args.source.now in
+    let law = narrow (g.met.S.Source.fits c.args.source.now) g.S.Source.bounded (g.met.S.System.lawful c.args.source.now) in
     let e = err_from_is_err_and c.from_residual.result c.from_residual.ensures.1 in
     let h = c.in_err-row.ensures in
     rw (e.1, e.2) (fault_promised c.in_err-row.field-0.0 (account_of c.args.self.now) c.args.slot m c.args.lines.now c.args.classes.now h.1 law (h.0 (length c.args.lines.now) (length c.args.classes.now)))
@@ -24,8 +24,8 @@ weigh-requires g c = force_sound c.args.self.now.slots.rows c.args.slot c.in_ok-
 pub returns-in_err-report : goal.returns-in_err-report
 returns-in_err-report g c =
     let x = c.args.self.now in
-    let m = g.S.Source.meaning c.args.source.now in
-    let law = lawful_most g.row.N m g.S.Source.bounded (g.S.Source.lawful c.args.source.now) in
+    let m = g.S.System.meaning c.args.source.now in
+    let law = narrow (g.met.S.Source.fits c.args.source.now) g.S.Source.bounded (g.met.S.System.lawful c.args.source.now) in
     let e = err_from_is_err_and c.from_residual-in_err-report.result c.from_residual-in_err-report.ensures.1 in
     let h = c.in_err-report.ensures in
     rw (e.1, e.2) (room_promised c.in_err-report.field-0.0 (account_of x) c.args.slot m c.args.lines.now c.weigh.new.lines c.args.classes.now c.weigh.new.classes h.0 h.2 h.3 law
@@ -34,8 +34,8 @@ returns-in_err-report g c =
 pub returns-in-Different : goal.returns-in-Different
 returns-in-Different g c =
     let x = c.args.self.now in
-    let m = g.S.Source.meaning c.args.source.now in
-    let law = lawful_most g.row.N m g.S.Source.bounded (g.S.Source.lawful c.args.source.now) in
+    let m = g.S.System.meaning c.args.source.now in
+    let law = narrow (g.met.S.Source.fits c.args.source.now) g.S.Source.bounded (g.met.S.System.lawful c.args.source.now) in
     let row = c.in_ok-row.row in
     let f = c.in_ok-row.ensures in
     let h = c.in_ok-report.ensures in
@@ -44,8 +44,8 @@ returns-in-Different g c =
 pub invariant_of-self : goal.invariant_of-self
 invariant_of-self g c =
     let x = c.args.self.now in
-    let m = g.S.Source.meaning c.args.source.now in
-    let law = lawful_most g.row.N m g.S.Source.bounded (g.S.Source.lawful c.args.source.now) in
+    let m = g.S.System.meaning c.args.source.now in
+    let law = narrow (g.met.S.Source.fits c.args.source.now) g.S.Source.bounded (g.met.S.System.lawful c.args.source.now) in
     let row = c.in_ok-row.row in
     let p = c.in_ok-row.procedure in
     let f = c.in_ok-row.ensures in
@@ -58,8 +58,8 @@ invariant_of-self g c =
 pub returns-in-Same : goal.returns-in-Same
 returns-in-Same g c =
     let x = c.args.self.now in
-    let m = g.S.Source.meaning c.args.source.now in
-    let law = lawful_most g.row.N m g.S.Source.bounded (g.S.Source.lawful c.args.source.now) in
+    let m = g.S.System.meaning c.args.source.now in
+    let law = narrow (g.met.S.Source.fits c.args.source.now) g.S.Source.bounded (g.met.S.System.lawful c.args.source.now) in
     let row = c.in_ok-row.row in
     let p = c.in_ok-row.procedure in
     let f = c.in_ok-row.ensures in
