@@ -1,18 +1,17 @@
 -- What a term answers of a state, from the state's run.
-use Rattle.std.proofs.Common.{◌≡◌, ℕ, ◌+◌, ◌<◌, ◌≤◌, eqb, List, length, get_or, Some, None, Option, sym, refl, ap, ◌∙◌, arith, length-append}
+use Rattle.std.proofs.Common.{◌≡◌, ℕ, zero, suc, ◌+◌, ◌<◌, ◌≤◌, Bool, false, eqb, List, ◌∷◌, length, get_or, take, drop, is_some, IsSome, Some, None, Option, MatchOption, sym, refl, ap, ◌∙◌, arith, length-append}
 use Rattle.std.specs.List.{slice_get}
-use Rattle.std.proofs.lemmas.List.FromFn.{get_or-map-range_with_len}
-use Rattle.std.proofs.lemmas.Option.{slice_get-get_or, slice_get_past}
-use Rattle.std.proofs.lemmas.Bool.{eq-eqb, ne_eqb}
-use Rattle.lts.specs.Laws.Member.{nth_missing}
-use Rattle.terms.specs.Syntax.{Tree, leaf, choice, sequence, Rest, done, left}
+use Rattle.std.proofs.lemmas.List.{drop_more, get_or-take, length-take-le}
+use Rattle.std.proofs.lemmas.Option.{slice_get-get_or}
+use Rattle.std.proofs.lemmas.Bool.{ne_eqb}
+use Rattle.terms.specs.Syntax.{Tree, leaf, choice, sequence, size, Rest, done, left}
 use Rattle.terms.specs.Graph.{firsts, contents, ended, leads}
 use Rattle.terms.specs.Terms.{tree_of}
 use Rattle.terms.specs.Laws.Lawful.{length_rests, nothing_past}
 use Rattle.terms.specs.Lists.{span, run_of, steps_of}
 use Rattle.terms.specs.declared.run.Run.{Run}
 use Rattle.terms.specs.declared.term.Term.{Term}
-use Rattle.terms.proofs.Runs.{length_span, same_is}
+use Rattle.terms.proofs.Runs.{same_is}
 
 -- something can always come first
 some_first : (x : Tree) → 0 < length (firsts x)
@@ -20,33 +19,61 @@ some_first (leaf a i) = omega arith
 some_first (choice x y) = let first = some_first x in omega (arith, length-append (firsts x) (firsts y))
 some_first (sequence x y) = some_first x
 
-end_counted : (o : Option (Rest Tree)) (n : ℕ) → n ≡ length (leads o) → (o ≡ None → ⊥) → eqb n 0 ≡ ended o
-end_counted None n e some = absurd (some refl)
-end_counted (Some done) n e some = eq-eqb n 0 e
-end_counted (Some (left x)) n e some = ne_eqb n 0 (λ z. (let f = some_first x in let b : ⊥ = omega arith in b))
-
-nth_span : (steps : List (ℕ × ℕ)) (a n k : ℕ) → k < n → slice_get (span steps a n) k ≡ Some (get_or steps (a + k) (0, 0))
-nth_span steps a n k h =
-    let l = length_span steps a n in
-    slice_get-get_or (span steps a n) k (0, 0) (omega arith) ∙ ap Some (get_or-map-range_with_len (λ j. get_or steps j (0, 0)) a n k (a + k) (0, 0) h refl)
+-- the steps of a run, as they stand in a row
+row_span : (steps : List (ℕ × ℕ)) (a n : ℕ) → a + n ≤ length steps → take n (drop a steps) ≡ span steps a n
+row_span steps a zero h = refl
+row_span steps a (suc n) h =
+    let rest = row_span steps (a + 1) n (omega arith) in
+    rw (drop_more steps a (0, 0) (omega arith)) (ap (λ xs. get_or steps a (0, 0) ∷ xs) rest)
 
 -- of a state that there is
-module _ (t : Term) (s : ℕ) (run : Run) (stands : (s ≤ t.actions) × (run ≡ run_of t.listing s)) where
-  run_leads : span t.listing.steps run.from run.count ≡ leads (slice_get (contents (tree_of t)) s)
-  run_leads = ap (λ (r : Run). span t.listing.steps r.from r.count) stands.1 ∙ same_is (steps_of t.listing s) (leads (slice_get (contents (tree_of t)) s)) (t.listed s stands.0)
+module _ (t : Term) (states s : ℕ) (run : Run) (e : states ≡ 1 + size (tree_of t)) (h : s < length (take states t.listing.runs)) (f : run ≡ get_or (take states t.listing.runs) s (record { from = 0; count = 0 })) where
+  stands : s ≤ t.actions
+  stands =
+      let sized = t.sized in
+      let few = t.few in
+      let runs = t.listing.runs_room in
+      omega (arith, length-take-le states t.listing.runs (omega arith))
 
-  pub counts : run.count ≡ length (leads (slice_get (contents (tree_of t)) s))
-  counts = sym (length_span t.listing.steps run.from run.count) ∙ ap length run_leads
+  its_run : run ≡ run_of t.listing s
+  its_run = let sized = t.sized in let l = stands in f ∙ get_or-take states t.listing.runs s (record { from = 0; count = 0 }) (omega arith)
 
-  pub ends : eqb run.count 0 ≡ ended (slice_get (contents (tree_of t)) s)
-  ends = end_counted (slice_get (contents (tree_of t)) s) run.count counts (λ e. (let m = nth_missing (contents (tree_of t)) s (sym e) in let b : ⊥ = omega (arith, length_rests (tree_of t), t.sized) in b))
+  pub run_inside : run.from + run.count ≤ 63
+  run_inside = rw its_run (t.inside s stands)
 
-  pub steps : (k : ℕ) → k < run.count → Some (get_or t.listing.steps (run.from + k) (0, 0)) ≡ slice_get (leads (slice_get (contents (tree_of t)) s)) k
-  steps k h = sym (nth_span t.listing.steps run.from run.count k h) ∙ ap (λ xs. slice_get xs k) run_leads
-
-  pub no_steps : (k : ℕ) → run.count ≤ k → None ≡ slice_get (leads (slice_get (contents (tree_of t)) s)) k
-  no_steps k h = let n = counts in sym (slice_get_past (leads (slice_get (contents (tree_of t)) s)) k (omega arith))
+  -- the row of its run holds its steps
+  pub row_leads : (n : ℕ) → n ≡ run.count → IsSome (slice_get (contents (tree_of t)) s) × (take n (drop run.from t.listing.steps) ≡ leads (slice_get (contents (tree_of t)) s))
+  row_leads n g =
+      let sized = t.sized in
+      let l = stands in
+      let room = t.listing.steps_room in
+      let inside = run_inside in
+      let held = slice_get-get_or (contents (tree_of t)) s done (omega (arith, length_rests (tree_of t))) in
+      let span_is : span t.listing.steps run.from run.count ≡ leads (slice_get (contents (tree_of t)) s) = ap (λ (r : Run). span t.listing.steps r.from r.count) its_run ∙ same_is (steps_of t.listing s) (leads (slice_get (contents (tree_of t)) s)) (t.listed s l) in
+      (ap is_some held, rw g (row_span t.listing.steps run.from run.count (omega arith) ∙ span_is))
 
 -- past the last state
-pub nothing : (t : Term) (s : ℕ) → t.actions < s → slice_get (contents (tree_of t)) s ≡ None
-nothing t s h = nothing_past (tree_of t) s (omega (arith, t.sized))
+pub nothing : (t : Term) (states s : ℕ) → states ≡ 1 + size (tree_of t) → length (take states t.listing.runs) ≤ s → slice_get (contents (tree_of t)) s ≡ None
+nothing t states s e h =
+    let sized = t.sized in
+    let few = t.few in
+    let runs = t.listing.runs_room in
+    nothing_past (tree_of t) s (omega (arith, length-take-le states t.listing.runs (omega arith)))
+
+-- what is told of a state, if there is such a state
+abbrev pub Told : {R : Type 0} → (R → List (ℕ × ℕ)) → Option (Rest Tree) → Option R → Type 0
+Told items held o = MatchOption o (held ≡ None) (λ r. IsSome held × (items r ≡ leads held))
+
+module _ {R : Type 0} (items : R → List (ℕ × ℕ)) (held : Option (Rest Tree)) where
+  pub told_count : (o : Option R) (n : ℕ) (P : R → Type 0) → Told items held o → ((r : R) → P r → n ≡ length (items r)) → MatchOption o (n ≡ 0) P → n ≡ length (leads held)
+  told_count None n P t f e = e ∙ sym (ap (λ h. length (leads h)) t)
+  told_count (Some r) n P t f e = f r e ∙ ap length t.1
+
+  pub told_end : (o : Option R) (b : Bool) (P : R → Type 0) → Told items held o → ((r : R) → P r → b ≡ eqb (length (items r)) 0) → MatchOption o (b ≡ false) P → b ≡ ended held
+  told_end None b P t f e = e ∙ sym (ap ended t)
+  told_end (Some r) b P t f e = f r e ∙ ap (λ xs. eqb (length xs) 0) t.1 ∙ is_end held t.0
+    where
+      is_end : (o : Option (Rest Tree)) → IsSome o → eqb (length (leads o)) 0 ≡ ended o
+      is_end None h = let z : ⊥ = cc in absurd z
+      is_end (Some done) h = refl
+      is_end (Some (left x)) h = ne_eqb (length (firsts x)) 0 (λ z. (let f = some_first x in let b : ⊥ = omega arith in b))

@@ -44,38 +44,24 @@ each_join l l' base mid then xs ys keeps at states first second k r h =
 
 -- the first actions of a choice: those of its first part, then those of its second
 module _ (t x y : Tree) (e : t ≡ choice x y) where
-  pub width_choice : length (firsts t) ≡ length (firsts x) + length (firsts y)
-  width_choice = ap (λ v. length (firsts v)) e ∙ length-append (firsts x) (firsts y)
-
   pub listed_choice : (l l₁ l₂ : Listing) → Listed l (firsts x) l₁ → Listed l₁ (firsts y) l₂ → Listed l (firsts t) l₂
   listed_choice l l₁ l₂ j k = rw (ap firsts e) (listed_join l l₁ l₂ (firsts x) (firsts y) j k)
 
-module _ (l l₁ l₂ : Listing) (then : Run) (t x y : Tree) (e : t ≡ choice x y) (f : Fits l then t) where
   choice_width : length (firsts t) ≡ length (firsts x) + length (firsts y)
-  choice_width = width_choice t x y e
+  choice_width = ap (λ v. length (firsts v)) e ∙ length-append (firsts x) (firsts y)
 
   choice_size : size t ≡ size x + size y
   choice_size = ap size e
 
-  pub choice_fits : Fits l then x
-  choice_fits =
-      let a = f.steps in
-      let b = f.states in
-      record { room = f.room; inside = f.inside; steps = omega (arith, choice_width, choice_size, few_firsts y); states = omega (arith, choice_size) }
-
-  module _ (j : Follows l x then l₁) where
-    pub choice_fits_second : Fits l₁ then y
-    choice_fits_second =
+  module _ (l : Listing) (then : Run) (f : Fits l then t) where
+    pub choice_fits : Fits l then x
+    choice_fits =
         let a = f.steps in
         let b = f.states in
-        let c = f.inside in
-        let w = j.written in
-        let s = j.states in
-        let m = j.keeps.more in
-        record { room = j.keeps.room; inside = omega arith; steps = omega (arith, choice_width, choice_size); states = omega (arith, choice_size) }
+        record { inside = f.inside; steps = omega (arith, choice_width, choice_size, few_firsts y); states = omega (arith, choice_size) }
 
-    pub choice_follows : Follows l₁ y then l₂ → Follows l t then l₂
-    choice_follows k =
+    pub choice_follows : (l₁ l₂ : Listing) → Follows l x then l₁ → Follows l₁ y then l₂ → Follows l t then l₂
+    choice_follows l₁ l₂ j k =
         let v = j.written in
         let w = k.written in
         let s = j.states in
@@ -101,7 +87,7 @@ each_followed l base then y rs each k r h =
     let q = nth_from_map (followed y) r rs k h in
     subst (λ xs. Shows l (run_of l (base + k)) xs) (sym (ap (after then) q.2 ∙ after_followed then y q.0)) (each k q.0 q.1)
 
-module _ (l l₁ l₂ l₃ : Listing) (then second : Run) (t x y : Tree) (e : t ≡ sequence x y) (f : Fits l then t) where
+module _ (t x y : Tree) (e : t ≡ sequence x y) (l : Listing) (then : Run) (f : Fits l then t) where
   sequence_width : length (firsts t) ≡ length (firsts x)
   sequence_width = ap (λ v. length (firsts v)) e
 
@@ -111,29 +97,16 @@ module _ (l l₁ l₂ l₃ : Listing) (then second : Run) (t x y : Tree) (e : t 
   pub sequence_room : l.listed + length (firsts y) ≤ 63
   sequence_room = let a = f.steps in omega (arith, sequence_width, sequence_size, few_firsts x, few_firsts y)
 
-  module _ (i : Listed l (firsts y) l₁) (shows : Shows l₁ second (firsts y)) where
+  module _ (l₁ : Listing) (second : Run) (i : Listed l (firsts y) l₁) (shows : Shows l₁ second (firsts y)) where
     pub sequence_fits : Fits l₁ second x
     sequence_fits =
         let a = f.steps in
         let b = f.states in
         let c = i.added in
         let d = i.states in
-        record { room = i.keeps.room; inside = shows.inside; steps = omega (arith, sequence_width, sequence_size, few_firsts y); states = omega (arith, sequence_size) }
+        record { inside = shows.inside; steps = omega (arith, sequence_width, sequence_size, few_firsts y); states = omega (arith, sequence_size) }
 
-    module _ (j : Follows l₁ x second l₂) where
-      pub sequence_fits_second : Fits l₂ then y
-      sequence_fits_second =
-          let a = f.steps in
-          let b = f.states in
-          let c = i.added in
-          let d = i.states in
-          let g = f.inside in
-          let w = j.written in
-          let s = j.states in
-          let m = i.keeps.more in
-          let n = j.keeps.more in
-          record { room = j.keeps.room; inside = omega arith; steps = omega (arith, sequence_width, sequence_size); states = omega (arith, sequence_size) }
-
+    module _ (l₂ : Listing) (j : Follows l₁ x second l₂) where
       keeps_first : Keeps l l₂
       keeps_first = let d = i.states in keeps_keeps l l₁ l₂ (omega arith) i.keeps j.keeps
 
@@ -142,8 +115,8 @@ module _ (l l₁ l₂ l₃ : Listing) (then second : Run) (t x y : Tree) (e : t 
           let here = subst (λ xs. Each l₂ l₁.states xs (rests x)) shows.steps j.each in
           each_followed l₂ l.states (span l.steps then.from then.count) y (rests x) (subst (λ s. Each l₂ s (firsts y) (rests x)) i.states here)
 
-      pub sequence_follows : Follows l₂ y then l₃ → Follows l t then l₃
-      sequence_follows k =
+      pub sequence_follows : (l₃ : Listing) → Follows l₂ y then l₃ → Follows l t then l₃
+      sequence_follows l₃ k =
           let c = i.added in
           let d = i.states in
           let v = j.written in
@@ -167,35 +140,26 @@ after_all : (r : Rest Tree) → after [] r ≡ leads (Some r)
 after_all done = refl
 after_all (left x) = refl
 
-module _ (t : Tree) (small : size t ≤ 63) (l l₁ l₂ l₃ : Listing) (whole none : Run) (bare : l.listed ≡ 0) (fresh : l.states ≡ 0) (i : Listed l (firsts t) l₁) (shows : Shows l₁ whole (firsts t)) (g : Given l₁ whole l₂) where
-  pub whole_fits : none.from + none.count ≡ 0 → Fits l₂ none t
-  whole_fits empty =
-      let a = i.added in
+module _ (t : Tree) (l l₁ l₂ l₃ : Listing) (whole none : Run) (bare : l.listed ≡ 0) (fresh : l.states ≡ 0) (i : Listed l (firsts t) l₁) (shows : Shows l₁ whole (firsts t)) (g : Given l₁ whole l₂) (j : Follows l₂ t none l₃) (empty : none.count ≡ 0) where
+  whole_each : (s : ℕ) → s ≤ size t → Shows l₃ (run_of l₃ s) (leads (slice_get (contents t) s))
+  whole_each zero h =
       let b = i.states in
-      let c = g.listed in
       let d = g.states in
-      record { room = g.keeps.room; inside = omega arith; steps = omega arith; states = omega arith }
+      let zeroth : run_of l₂ 0 ≡ whole = ap (run_of l₂) (omega (arith, b)) ∙ g.given in
+      kept_run l₂ l₃ 0 (firsts t) j.keeps (omega arith) (rw zeroth (shows_more l₁ l₂ whole (firsts t) g.keeps shows))
+  whole_each (suc k) h =
+      let b = i.states in
+      let d = g.states in
+      let r = get_or (rests t) k done in
+      let e = slice_get-get_or (rests t) k done (omega (arith, length_rests t)) in
+      let n : l₂.states + k ≡ suc k = omega arith in
+      let none_first : span l₂.steps none.from none.count ≡ [] = ap (span l₂.steps none.from) empty in
+      let steps : after (span l₂.steps none.from none.count) r ≡ leads (slice_get (rests t) k) = ap (λ xs. after xs r) none_first ∙ after_all r ∙ ap leads (sym e) in
+      subst (λ xs. Shows l₃ (run_of l₃ (suc k)) xs) steps (subst (λ s. Shows l₃ (run_of l₃ s) (after (span l₂.steps none.from none.count) r)) n (j.each k r e))
 
-  module _ (j : Follows l₂ t none l₃) (empty : none.count ≡ 0) where
-    whole_each : (s : ℕ) → s ≤ size t → Shows l₃ (run_of l₃ s) (leads (slice_get (contents t) s))
-    whole_each zero h =
-        let b = i.states in
-        let d = g.states in
-        let zeroth : run_of l₂ 0 ≡ whole = ap (run_of l₂) (omega (arith, b)) ∙ g.given in
-        kept_run l₂ l₃ 0 (firsts t) j.keeps (omega arith) (rw zeroth (shows_more l₁ l₂ whole (firsts t) g.keeps shows))
-    whole_each (suc k) h =
-        let b = i.states in
-        let d = g.states in
-        let r = get_or (rests t) k done in
-        let e = slice_get-get_or (rests t) k done (omega (arith, length_rests t)) in
-        let n : l₂.states + k ≡ suc k = omega arith in
-        let none_first : span l₂.steps none.from none.count ≡ [] = ap (span l₂.steps none.from) empty in
-        let steps : after (span l₂.steps none.from none.count) r ≡ leads (slice_get (rests t) k) = ap (λ xs. after xs r) none_first ∙ after_all r ∙ ap leads (sym e) in
-        subst (λ xs. Shows l₃ (run_of l₃ (suc k)) xs) steps (subst (λ s. Shows l₃ (run_of l₃ s) (after (span l₂.steps none.from none.count) r)) n (j.each k r e))
-
-    pub whole_lays : Lays t l₃
-    whole_lays =
-        let a = i.added in
-        let c = g.listed in
-        let w = j.written in
-        record { written = omega arith; each = whole_each }
+  pub whole_lays : Lays t l₃
+  whole_lays =
+      let a = i.added in
+      let c = g.listed in
+      let w = j.written in
+      record { written = omega arith; each = whole_each }

@@ -1,6 +1,6 @@
 -- Action characters and their actions.
-use Rattle.std.proofs.Common.{◌≡◌, ℕ, ◌+◌, ◌-◌, ◌≤◌, true, ◌&&◌, ◌||◌, leb, subst, ⊎_elim, arith}
-use Rattle.std.proofs.lemmas.Bool.{and_parts, and_from, or_cases, or_left, or_right, leb-true, le-leb, lt-leb}
+use Rattle.std.proofs.Common.{◌≡◌, ℕ, ◌+◌, ◌-◌, ◌≤◌, true, false, ◌&&◌, ◌||◌, leb, subst, ⊎_elim, arith}
+use Rattle.std.proofs.lemmas.Bool.{false_from_ne_true, and_parts, and_from, or_cases, or_left, or_right, leb-true, le-leb, lt-leb}
 use Rattle.terms.specs.Grammar.{Letter, small, capital, digit}
 use Rattle.terms.specs.Scan.{is_action}
 use Rattle.terms.specs.Assembly.{action_of}
@@ -31,10 +31,19 @@ letter_action (small {c} l h) = (or_left (leb 97 c && leb c 122) ((leb 65 c && l
 letter_action (capital {c} l h) = (or_right (leb 97 c && leb c 122) ((leb 65 c && leb c 90) || (leb 48 c && leb c 57)) (or_left (leb 65 c && leb c 90) (leb 48 c && leb c 57) (inside 65 c 90 l h)), rw (lt-leb 97 c (omega arith), le-leb 65 c l))
 letter_action (digit {c} l h) = (or_right (leb 97 c && leb c 122) ((leb 65 c && leb c 90) || (leb 48 c && leb c 57)) (or_right (leb 65 c && leb c 90) (leb 48 c && leb c 57) (inside 48 c 57 l h)), rw (lt-leb 97 c (omega arith), lt-leb 65 c (omega arith)))
 
+pub no_action : (c : ℕ) → ((a : ℕ) → Letter c a → ⊥) → is_action c ≡ false
+no_action c h = false_from_ne_true (is_action c) (λ e. h (action_of c) (action_letter c e))
+
 pub letter_bound : {c a : ℕ} → Letter c a → a ≤ 61
 letter_bound (small l h) = omega arith
 letter_bound (capital l h) = omega arith
 letter_bound (digit l h) = omega arith
+
+-- no action has this character
+pub no_letter : {c a : ℕ} → (97 ≤ c → c ≤ 122 → ⊥) → (65 ≤ c → c ≤ 90 → ⊥) → (48 ≤ c → c ≤ 57 → ⊥) → Letter c a → ⊥
+no_letter s k d (small l h) = s l h
+no_letter s k d (capital l h) = k l h
+no_letter s k d (digit l h) = d l h
 
 -- the character of each action
 pub small_letter : (a : ℕ) → a ≤ 25 → Letter (97 + a) a

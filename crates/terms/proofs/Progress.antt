@@ -12,7 +12,7 @@ use Rattle.terms.specs.Graph.{ByRules, graph}
 use Rattle.terms.specs.Nodes.{numbered}
 use Rattle.terms.specs.Scan.{first_refusal}
 use Rattle.terms.specs.Assembly.{Partial, start, past, plus, feed, feeds, then_feeds}
-use Rattle.terms.specs.Reader.{partial, scanned, Sound, Counted, Finished}
+use Rattle.terms.specs.Reader.{partial, scanned, Counted, Finished}
 use Rattle.terms.specs.Reading.{refusal_of}
 use Rattle.terms.specs.Terms.{tree_of}
 use Rattle.terms.proofs.Complete.{text_put}
@@ -24,12 +24,11 @@ use Rattle.terms.proofs.Spelled.{text_spelled}
 
 -- after i bytes
 pub record Progress (text : List ℕ) (i : ℕ) (r : Reader) : Type 0 where
-  pub sound : Sound r
   pub fed : feeds start (take i text) ≡ Some (partial r)
   pub rest : scanned (partial r) i (drop i text) ≡ scanned start 0 text
 
-pub progress_start : (text : List ℕ) (r : Reader) → Sound r → partial r ≡ start → Progress text 0 r
-progress_start text r s e = record { sound = s; fed = ap Some (sym e); rest = ap (λ q. scanned q 0 text) e }
+pub progress_start : (text : List ℕ) (r : Reader) → partial r ≡ start → Progress text 0 r
+progress_start text r e = record { fed = ap Some (sym e); rest = ap (λ q. scanned q 0 text) e }
 
 feeds_push : (q q' : Partial) (xs : List ℕ) (c : ℕ) → feeds q xs ≡ Some q' → feeds q (xs ++ c ∷ []) ≡ feed q' c
 feeds_push q q' [] c e = let f : q ≡ q' = cc in rw f (last (feed q' c))
@@ -43,14 +42,14 @@ feeds_push q q' (x ∷ xs) c e = go (λ z f. feeds_push z q' xs c f) (feed q x) 
     go more None f = let z : ◌≡◌ {A = ℕ} 0 1 = cc in let b : ⊥ = omega arith in absurd b
     go more (Some z) f = more z f
 
-within : (r : Reader) → Sound r → Within (partial r)
-within r s = let d = depth_is r in let h = s.holds.shallow in record { actions = s.few; brackets = omega arith }
+within : (r : Reader) → Within (partial r)
+within r = let d = depth_is r in let h = r.shallow in record { actions = r.few; brackets = omega arith }
 
-pub progress_more : (text : List ℕ) (i : ℕ) (r r' : Reader) → i < length text → Progress text i r → Sound r' → feed (partial r) (get_or text i 0) ≡ Some (partial r') → Progress text (i + 1) r'
-progress_more text i r r' l p s e =
+pub progress_more : (text : List ℕ) (i : ℕ) (r r' : Reader) → i < length text → Progress text i r → feed (partial r) (get_or text i 0) ≡ Some (partial r') → Progress text (i + 1) r'
+progress_more text i r r' l p e =
     let c = get_or text i 0 in
     let rest : scanned (partial r) i (c ∷ drop (i + 1) text) ≡ scanned start 0 text = subst (λ zs. scanned (partial r) i zs ≡ scanned start 0 text) (drop_more text i 0 l) p.rest in
-    record { sound = s; fed = ap (feeds start) (take_more text i 0 l) ∙ (feeds_push start (partial r) (take i text) c p.fed ∙ e); rest = sym (feed_scan (partial r) (partial r') c e (within r' s) i (drop (i + 1) text)) ∙ rest }
+    record { fed = ap (feeds start) (take_more text i 0 l) ∙ (feeds_push start (partial r) (take i text) c p.fed ∙ e); rest = sym (feed_scan (partial r) (partial r') c e (within r') i (drop (i + 1) text)) ∙ rest }
 
 -- a byte was refused
 pub progress_stop : (text : List ℕ) (i : ℕ) (r : Reader) (f : TermFault) → i < length text → Progress text i r → ((cs : List ℕ) → scanned (partial r) i (get_or text i 0 ∷ cs) ≡ Some f) → scanned start 0 text ≡ Some f

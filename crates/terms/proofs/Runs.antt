@@ -31,7 +31,6 @@ keeps_keeps l l₁ l₂ s j k =
     let m = j.more in
     let n = k.more in
     record {
-      room = k.room;
       more = omega arith;
       steps = λ i h. k.steps i (omega arith) ∙ j.steps i h;
       runs = λ i h. k.runs i (omega arith) ∙ j.runs i h;

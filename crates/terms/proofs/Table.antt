@@ -1,10 +1,11 @@
 -- The trees of a table of nodes: each node's tree is made of those of its children.
-use Rattle.std.proofs.Common.{◌≡◌, ℕ, zero, suc, ◌+◌, ◌<◌, true, ltb, List, [], ◌∷◌, ◌++◌, length, get_or, sym, refl, ◌∙◌, arith}
-use Rattle.std.proofs.lemmas.List.{get_or_append_left, get_or_past, get_or_push, length_push}
+use Rattle.std.proofs.Common.{◌≡◌, ℕ, zero, suc, ◌+◌, ◌<◌, true, ltb, List, [], ◌∷◌, ◌++◌, length, get_or, take, sym, refl, ◌∙◌, subst, arith}
+use Rattle.std.proofs.lemmas.List.{get_or_append_left, get_or_past, get_or_push, get_or-take, length_push}
 use Rattle.std.proofs.lemmas.Bool.{ltb-true, and_parts}
-use Rattle.terms.specs.Syntax.{Tree, leaf}
+use Rattle.terms.specs.Syntax.{Tree, leaf, choice, sequence}
 use Rattle.terms.specs.Nodes.{make, grow, lower}
-use Rattle.terms.specs.Lists.{Falls, Says}
+use Rattle.terms.specs.Table.{at as tree_at}
+use Rattle.terms.specs.declared.nodes.Nodes.{Nodes}
 use Rattle.terms.specs.declared.node.Node.{Node}
 use Rattle.terms.specs.declared.node.Node.TheVariants.{Action, Choice, Sequence}
 
@@ -30,18 +31,26 @@ grow_makes (n ∷ nodes) trees zero k e =
 grow_makes (n ∷ nodes) trees (suc m) k e =
     grow_makes nodes (trees ++ make trees n ∷ []) m k (omega (arith, length_push trees (make trees n)))
 
-says_made : (nodes : List Node) (k : ℕ) (n : Node) → lower k n ≡ true → Made (grow [] nodes) n k → Says nodes k n
-says_made nodes k (Action a i) l m = m.1
-says_made nodes k (Choice x y) l m =
+-- what a node says of its tree
+abbrev pub Tells : Nodes → ℕ → Node → Type 0
+Tells nodes k (Action a i) = tree_at nodes k ≡ leaf a i
+Tells nodes k (Choice x y) = (x < k) × (y < k) × (tree_at nodes k ≡ choice (tree_at nodes x) (tree_at nodes y))
+Tells nodes k (Sequence x y) = (x < k) × (y < k) × (tree_at nodes k ≡ sequence (tree_at nodes x) (tree_at nodes y))
+
+tells_made : (nodes : Nodes) (k : ℕ) (n : Node) → lower k n ≡ true → Made (grow [] (take nodes.used nodes.table)) n k → Tells nodes k n
+tells_made nodes k (Action a i) l m = m.1
+tells_made nodes k (Choice x y) l m =
     let p = and_parts (ltb x k) (ltb y k) l in
     let left = ltb-true x k p.0 in
     let right = ltb-true y k p.1 in
     (left, right, cc (m.1, m.2 x left, m.2 y right))
-says_made nodes k (Sequence x y) l m =
+tells_made nodes k (Sequence x y) l m =
     let p = and_parts (ltb x k) (ltb y k) l in
     let left = ltb-true x k p.0 in
     let right = ltb-true y k p.1 in
     (left, right, cc (m.1, m.2 x left, m.2 y right))
 
-pub says : (nodes : List Node) (k : ℕ) → Falls nodes → k < length nodes → Says nodes k (get_or nodes k (Action 0 0))
-says nodes k f h = says_made nodes k (get_or nodes k (Action 0 0)) (f k h) (grow_makes nodes [] k k (omega arith))
+pub tells : (nodes : Nodes) (k : ℕ) (n : Node) → k < nodes.used → get_or nodes.table k (Action 0 0) ≡ n → Tells nodes k n
+tells nodes k n h e =
+    let made = grow_makes (take nodes.used nodes.table) [] k k (omega arith) in
+    subst (Tells nodes k) e (tells_made nodes k (get_or nodes.table k (Action 0 0)) (nodes.falls k h) (rw (get_or-take nodes.used nodes.table k (Action 0 0) h) at made))

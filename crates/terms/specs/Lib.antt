@@ -4,6 +4,8 @@ pub mod Scan
 pub mod Rules
 pub mod Graph
 pub mod Nodes
+pub mod Names
+pub mod Table
 pub mod Faults
 pub mod Terms
 pub mod Assembly

@@ -1,32 +1,10 @@
 -- What the walks over the table of nodes list: the steps of a term's states, in runs.
 use Rattle.std.specs.Prelude.{◌≡◌, ℕ, ◌+◌, ◌<◌, ◌≤◌, Bool, true, false, ◌&&◌, List, [], ◌∷◌, map, length, get_or, Some, ◌==◌, slice_index_or}
 use Rattle.std.specs.List.{slice_get, range_with_len}
-use Rattle.terms.specs.Syntax.{Tree, leaf, choice, sequence, size, Rest, done, left}
+use Rattle.terms.specs.Syntax.{Tree, size, Rest, done, left}
 use Rattle.terms.specs.Graph.{firsts, rests, contents, leads}
-use Rattle.terms.specs.Nodes.{grow, lower}
-use Rattle.terms.specs.declared.node.Node.{Node}
-use Rattle.terms.specs.declared.node.Node.TheVariants.{Action, Choice, Sequence}
 use Rattle.terms.specs.declared.run.Run.{Run}
 use Rattle.terms.specs.declared.listing.Listing.{Listing}
-
--- the tree of node k
-abbrev pub node_tree : List Node → ℕ → Tree
-node_tree nodes k = slice_index_or (grow [] nodes) k (leaf 0 0)
-
--- each node's children stand before it
-abbrev pub Falls : List Node → Type 0
-Falls nodes = (k : ℕ) → k < length nodes → lower k (slice_index_or nodes k (Action 0 0)) ≡ true
-
--- node k is one of them
-pub record Stands (nodes : List Node) (k : ℕ) : Type 0 where
-  pub falls : Falls nodes
-  pub used : k < length nodes
-
--- what a node says of its tree
-abbrev pub Says : List Node → ℕ → Node → Type 0
-Says nodes n (Action a i) = node_tree nodes n ≡ leaf a i
-Says nodes n (Choice x y) = (x < n) × (y < n) × (node_tree nodes n ≡ choice (node_tree nodes x) (node_tree nodes y))
-Says nodes n (Sequence x y) = (x < n) × (y < n) × (node_tree nodes n ≡ sequence (node_tree nodes x) (node_tree nodes y))
 
 -- the steps of a run
 abbrev pub span : List (ℕ × ℕ) → ℕ → ℕ → List (ℕ × ℕ)
@@ -47,11 +25,6 @@ same_steps [] (y ∷ ys) = false
 same_steps (x ∷ xs) [] = false
 same_steps (x ∷ xs) (y ∷ ys) = x.0 == y.0 && (x.1 == y.1 && same_steps xs ys)
 
--- the places for steps and for runs
-pub record Room (l : Listing) : Type 0 where
-  pub steps : length l.steps ≡ 63
-  pub runs : length l.runs ≡ 64
-
 -- a run of what is listed holds these steps
 pub record Shows (l : Listing) (run : Run) (xs : List (ℕ × ℕ)) : Type 0 where
   pub inside : run.from + run.count ≤ l.listed
@@ -59,7 +32,6 @@ pub record Shows (l : Listing) (run : Run) (xs : List (ℕ × ℕ)) : Type 0 whe
 
 -- what was listed stays, and so do the runs given
 pub record Keeps (l l' : Listing) : Type 0 where
-  pub room : Room l'
   pub more : l.listed ≤ l'.listed
   pub steps : (k : ℕ) → k < l.listed → slice_index_or l'.steps k (0, 0) ≡ slice_index_or l.steps k (0, 0)
   pub runs : (s : ℕ) → s < l.states → run_of l' s ≡ run_of l s
@@ -90,7 +62,6 @@ after then (left x) = firsts x
 
 -- There is room for the states behind the actions of t and for their steps. Those that `then` shows are listed.
 pub record Fits (l : Listing) (then : Run) (t : Tree) : Type 0 where
-  pub room : Room l
   pub inside : then.from + then.count ≤ l.listed
   pub steps : l.listed + size t ≤ 63 + length (firsts t)
   pub states : l.states + size t ≤ 64

@@ -1,7 +1,7 @@
 -- The tree that a read term stands for.
 use Rattle.terms.specs.Syntax.{Tree}
-use Rattle.terms.specs.Nodes.{tree}
+use Rattle.terms.specs.Table.{at}
 use Rattle.terms.specs.declared.term.Term.{Term}
 
 abbrev pub tree_of : Term → Tree
-tree_of t = tree t.nodes t.used t.root
+tree_of t = at t.nodes t.root

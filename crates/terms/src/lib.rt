@@ -6,6 +6,7 @@ pub mod fault;
 pub mod letter;
 mod listing;
 pub mod node;
+mod nodes;
 mod run;
 pub mod term;
 

@@ -1,11 +1,8 @@
 // The steps of a term's states, written out once. What can come first of the whole term, and of the second part of each sequence,
 // stands in a run of its own, and each state has one of these runs.
-ghost use Rattle.std.specs.Prelude.{◌≡◌, ◌+◌, ◌<◌, ◌≤◌, length};
-ghost use Rattle.terms.specs.Graph.{firsts};
-ghost use Rattle.terms.specs.Lists.{node_tree, Stands, Says, Room, Shows, Listed, Given, Pushed, Fits, Follows, Lays};
-ghost use Rattle.terms.specs.Syntax.{size};
+ghost use Rattle.std.specs.Prelude.{◌≡◌, ◌≤◌, length};
 
-use crate::node::Node;
+use crate::nodes::{Parts, Subterm};
 use crate::run::Run;
 
 #[derive(Clone, Copy)]
@@ -16,19 +13,18 @@ pub struct Listing {
     // The runs of so many states, in the order of the states.
     pub runs: [Run; 64],
     pub states: u8,
-}
-
-// The node at a place in use.
-fn at(nodes: &[Node], node: u8) -> Node
-    requires { Stands nodes.now node }
-    ensures { Says nodes.now node result }
-{
-    nodes[node as usize]
+    ghost steps_room: { length steps ≡ 63 },
+    ghost runs_room: { length runs ≡ 64 },
 }
 
 impl Listing {
+    ghost use Rattle.std.specs.Prelude.{◌≡◌, ◌+◌, ◌<◌, ◌≤◌, length};
+    ghost use Rattle.terms.specs.Graph.{firsts};
+    ghost use Rattle.terms.specs.Lists.{Shows, Listed, Given, Pushed, Fits, Follows, Lays};
+    ghost use Rattle.terms.specs.Syntax.{size};
+    ghost use Rattle.terms.specs.Table.{subtree};
+
     fn new() -> Listing
-        ensures room { Room result }
         ensures listed { result.listed ≡ 0 }
         ensures states { result.states ≡ 0 }
     {
@@ -42,8 +38,7 @@ impl Listing {
 
     // One step more.
     fn push(&mut self, action: u8, place: u8)
-        requires room { Room self.old }
-        requires free { self.old.listed < 63 }
+        requires { self.old.listed < 63 }
         ensures { Pushed self.old action place self.new }
     {
         let number = self.listed;
@@ -53,8 +48,7 @@ impl Listing {
 
     // The run of one state more.
     fn give(&mut self, run: Run)
-        requires room { Room self.old }
-        requires free { self.old.states < 64 }
+        requires { self.old.states < 64 }
         ensures { Given self.old run self.new }
     {
         let number = self.states;
@@ -63,68 +57,62 @@ impl Listing {
     }
 
     // Lists the actions that can come first.
-    fn first(&mut self, nodes: &[Node], node: u8)
-        requires stands { Stands nodes.now node }
-        requires room { Room self.old }
-        requires free { self.old.listed + length (firsts (node_tree nodes.now node)) ≤ 63 }
-        ensures { Listed self.old (firsts (node_tree nodes.now node)) self.new }
+    fn first(&mut self, term: Subterm)
+        requires { self.old.listed + length (firsts (subtree term)) ≤ 63 }
+        ensures { Listed self.old (firsts (subtree term.entry)) self.new }
     {
-        match at(nodes, node) {
-            Node::Action(a, i) => self.push(a, i),
-            Node::Choice(x, y) => {
-                self.first(nodes, x);
-                self.first(nodes, y);
+        match term.parts() {
+            Parts::Action(a, i) => self.push(a, i),
+            Parts::Choice(x, y) => {
+                self.first(x);
+                self.first(y);
             }
-            Node::Sequence(x, _) => self.first(nodes, x),
+            Parts::Sequence(x, _) => self.first(x),
         }
     }
 
     // A run of the actions that can come first.
-    fn run(&mut self, nodes: &[Node], node: u8) -> Run
-        requires stands { Stands nodes.now node }
-        requires room { Room self.old }
-        requires free { self.old.listed + length (firsts (node_tree nodes.now node)) ≤ 63 }
-        ensures listed { Listed self.old (firsts (node_tree nodes.now node)) self.new }
-        ensures shows { Shows self.new result (firsts (node_tree nodes.now node)) }
+    fn run(&mut self, term: Subterm) -> Run
+        requires { self.old.listed + length (firsts (subtree term)) ≤ 63 }
+        ensures listed { Listed self.old (firsts (subtree term.entry)) self.new }
+        ensures shows { Shows self.new result (firsts (subtree term.entry)) }
     {
         let from = self.listed;
-        self.first(nodes, node);
+        self.first(term);
         Run {
             from,
             count: self.listed - from,
         }
     }
 
-    // Gives a run to the state behind each action, in text order; `then` is the run of what follows the node.
-    fn behind(&mut self, nodes: &[Node], node: u8, then: Run)
-        requires stands { Stands nodes.now node }
-        requires fits { Fits self.old then (node_tree nodes.now node) }
-        ensures { Follows self.old (node_tree nodes.now node) then self.new }
+    // Gives a run to the state behind each action, in text order; `then` is the run of what follows the term.
+    fn behind(&mut self, term: Subterm, then: Run)
+        requires { Fits self.old then (subtree term) }
+        ensures { Follows self.old (subtree term.entry) then self.new }
     {
-        match at(nodes, node) {
-            Node::Action(_, _) => self.give(then),
-            Node::Choice(x, y) => {
-                self.behind(nodes, x, then);
-                self.behind(nodes, y, then);
+        match term.parts() {
+            Parts::Action(_, _) => self.give(then),
+            Parts::Choice(x, y) => {
+                self.behind(x, then);
+                self.behind(y, then);
             }
-            Node::Sequence(x, y) => {
-                let second = self.run(nodes, y);
-                self.behind(nodes, x, second);
-                self.behind(nodes, y, then);
+            Parts::Sequence(x, y) => {
+                let second = self.run(y);
+                self.behind(x, second);
+                self.behind(y, then);
             }
         }
     }
 
     // The steps of every state of a term.
-    pub(crate) fn of(nodes: &[Node], root: u8) -> Listing
-        requires stands { Stands nodes.now root }
-        requires few { size (node_tree nodes.now root) ≤ 63 }
-        ensures { Lays (node_tree nodes.now root) result }
+    pub(crate) fn of(term: Subterm) -> Listing
+        requires { size (subtree term) ≤ 63 }
+        ensures { Lays (subtree term.entry) result }
     {
         let mut listing = Listing::new();
-        let whole = listing.run(nodes, root);
+        let whole = listing.run(term);
         listing.give(whole);
-        listing.behind(nodes, root, Run { from: 0, count: 0 });
+        listing.behind(term, Run { from: 0, count: 0 });
         listing
     }
 }

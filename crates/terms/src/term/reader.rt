@@ -1,19 +1,13 @@
 // Reads a text byte by byte into a table of nodes.
-ghost use Rattle.std.specs.Prelude.{◌≡◌, ℕ, ◌+◌, ◌<◌, ◌≤◌, true, [], take, IfOk, Some, None, MatchResult};
-ghost use Rattle.terms.specs.Assembly.{start, plus, times};
-ghost use Rattle.terms.specs.Faults.{TooLarge};
-ghost use Rattle.terms.specs.Graph.{ByRules, graph};
-ghost use Rattle.terms.specs.Grammar.{Spells, sum};
-ghost use Rattle.terms.specs.Nodes.{grow, make, lower};
-ghost use Rattle.terms.specs.Reader.{partial, known, Below, one, at, Table, Sound, Joined, Acted, Opened, Chosen, Closed, Took, Counted, Finished};
-ghost use Rattle.terms.specs.Reading.{refusal_of};
-ghost use Rattle.terms.specs.Scan.{first_refusal};
-ghost use Rattle.terms.specs.Syntax.{Tree};
-ghost use Rattle.terms.specs.Terms.{tree_of};
+ghost use Rattle.std.specs.Prelude.{◌≡◌, ◌+◌, ◌*◌, ◌≤◌, length};
+ghost use Rattle.std.proofs.Props.{props};
+ghost use Rattle.terms.specs.Names.{Below, Framed, named, one, stacked, weight};
 
 use crate::fault::TermFault;
+use crate::letter::action;
 use crate::listing::Listing;
 use crate::node::Node;
+use crate::nodes::Nodes;
 use crate::term::Term;
 
 const MOST_BYTES: usize = 512;
@@ -36,100 +30,67 @@ struct Frame {
     product: Option<u8>,
 }
 
+// Each action adds a node and a name for it, each choice and sequence a node in place of a name: so the table is large enough.
 #[derive(Drop)]
 struct Reader {
-    nodes: [Node; 125],
-    used: u8,
+    nodes: Nodes,
     actions: u8,
     frames: [Frame; 32],
-    open: u8,
+    depth: u8,
     sum: Option<u8>,
     position: Position,
+    ghost room: { length frames ≡ 32 },
+    ghost shallow: { depth ≤ 32 },
+    ghost few: { actions ≤ 63 },
+    ghost summed: { Below nodes.used sum } by { Prim.hlevel props },
+    ghost placed: { Below nodes.used (named position) } by { Prim.hlevel props },
+    ghost framed: { Framed nodes.used (stacked frames depth) } by { Prim.hlevel props },
+    ghost balance: { nodes.used + (one sum + one (named position) + weight (stacked frames depth)) ≡ 2 * actions },
 }
 
 impl Reader {
+    ghost use Rattle.std.specs.Prelude.{◌≡◌, ◌<◌};
+    ghost use Rattle.terms.specs.Assembly.{start};
+    ghost use Rattle.terms.specs.Reader.{partial, Acted, Opened, Chosen, Closed, Took, Counted, Finished};
+
     fn new() -> Reader
-        ensures { Sound result × (partial result ≡ start) }
+        ensures { partial result ≡ start }
     {
         let frame = Frame {
             sum: None,
             product: None,
         };
         Reader {
-            nodes: [Node::Action(0, 0); 125],
-            used: 0,
+            nodes: Nodes::new(),
             actions: 0,
             frames: [frame; 32],
-            open: 0,
+            depth: 0,
             sum: None,
             position: Position::Before(None),
         }
     }
 
-    // One node more; its number.
-    fn push(&mut self, node: Node) -> u8
-        requires table { Table self.old.nodes self.old.used }
-        requires room { self.old.used < 125 }
-        requires behind { lower self.old.used node ≡ true }
-        ensures { Joined self.old (make (grow [] (take self.old.used self.old.nodes)) node) 1 result self.new }
-    {
-        let number = self.used;
-        self.nodes[number as usize] = node;
-        self.used = number + 1;
-        number
-    }
-
-    // The product that goes on with an operand.
-    fn multiply(&mut self, product: Option<u8>, operand: u8) -> u8
-        requires table { Table self.old.nodes self.old.used }
-        requires left { Below self.old.used product }
-        requires right { operand < self.old.used }
-        requires room { self.old.used + one product ≤ 125 }
-        ensures { Joined self.old (times (known (at self.old) product) (at self.old operand)) (one product) result self.new }
-    {
-        match product {
-            None => operand,
-            Some(product) => self.push(Node::Sequence(product, operand)),
-        }
-    }
-
-    // The sum so far with a product more.
-    fn add(&mut self, product: u8) -> u8
-        requires table { Table self.old.nodes self.old.used }
-        requires left { Below self.old.used self.old.sum }
-        requires right { product < self.old.used }
-        requires room { self.old.used + one self.old.sum ≤ 125 }
-        ensures { Joined self.old (plus (known (at self.old) self.old.sum) (at self.old product)) (one self.old.sum) result self.new }
-    {
-        match self.sum {
-            None => product,
-            Some(sum) => self.push(Node::Choice(sum, product)),
-        }
-    }
-
     // An action behind the product that goes on with it.
     fn act(&mut self, product: Option<u8>, action: u8, offset: usize) -> Result<(), TermFault>
-        requires sound { Sound self.old }
-        requires stands { self.old.position ≡ Position.Before product }
+        requires { self.old.position ≡ Position.Before product }
         ensures { Acted self.old product action offset result self.new }
     {
         if self.actions >= MOST_ACTIONS {
             return Err(TermFault::Actions(offset));
         }
         self.actions += 1;
-        let leaf = self.push(Node::Action(action, self.actions));
-        let product = self.multiply(product, leaf);
+        let leaf = self.nodes.push(Node::Action(action, self.actions));
+        let product = self.nodes.multiply(product, leaf);
         self.position = Position::Behind(product);
         Ok(())
     }
 
     // '(' behind the product that the bracket goes on with.
     fn open(&mut self, product: Option<u8>, offset: usize) -> Result<(), TermFault>
-        requires sound { Sound self.old }
-        requires stands { self.old.position ≡ Position.Before product }
+        requires { self.old.position ≡ Position.Before product }
         ensures { Opened self.old product offset result self.new }
     {
-        let depth = self.open;
+        let depth = self.depth;
         if depth >= MOST_BRACKETS {
             return Err(TermFault::Brackets(offset));
         }
@@ -137,7 +98,7 @@ impl Reader {
             sum: self.sum,
             product,
         };
-        self.open = depth + 1;
+        self.depth = depth + 1;
         self.sum = None;
         self.position = Position::Before(None);
         Ok(())
@@ -145,41 +106,39 @@ impl Reader {
 
     // '+' behind a product.
     fn choose(&mut self, product: u8)
-        requires sound { Sound self.old }
-        requires stands { self.old.position ≡ Position.Behind product }
+        requires { self.old.position ≡ Position.Behind product }
         ensures { Chosen self.old product self.new }
     {
-        let sum = self.add(product);
+        let sum = self.nodes.add(self.sum, product);
         self.sum = Some(sum);
         self.position = Position::Before(None);
     }
 
     // ')' behind a product, with a bracket open.
     fn close(&mut self, product: u8)
-        requires sound { Sound self.old }
         requires stands { self.old.position ≡ Position.Behind product }
-        requires inside { 0 < self.old.open }
+        requires inside { 0 < self.old.depth }
         ensures { Closed self.old product self.new }
     {
-        let whole = self.add(product);
-        let depth = self.open - 1;
+        let whole = self.nodes.add(self.sum, product);
+        let depth = self.depth - 1;
         let frame = self.frames[depth as usize];
-        self.open = depth;
+        self.depth = depth;
         self.sum = frame.sum;
-        let product = self.multiply(frame.product, whole);
+        let product = self.nodes.multiply(frame.product, whole);
         self.position = Position::Behind(product);
     }
 
     // The byte at an offset.
     fn feed(&mut self, byte: u8, offset: usize) -> Result<(), TermFault>
-        requires { Sound self.old }
         ensures { Took self.old offset byte result self.new }
     {
         match (self.position, byte as char) {
-            (Position::Before(product), 'a'..='z') => self.act(product, byte - b'a', offset),
-            (Position::Before(product), 'A'..='Z') => self.act(product, byte - b'A' + 26, offset),
-            (Position::Before(product), '0'..='9') => self.act(product, byte - b'0' + 52, offset),
             (Position::Before(product), '(') => self.open(product, offset),
+            (Position::Before(product), letter) => {
+                let action = action(letter).ok_or(TermFault::Misplaced(offset))?;
+                self.act(product, action, offset)
+            }
             (Position::Behind(product), '+') => {
                 self.choose(product);
                 Ok(())
@@ -188,7 +147,7 @@ impl Reader {
                 self.position = Position::Before(Some(product));
                 Ok(())
             }
-            (Position::Behind(product), ')') if self.open > 0 => {
+            (Position::Behind(product), ')') if self.depth > 0 => {
                 self.close(product);
                 Ok(())
             }
@@ -197,20 +156,19 @@ impl Reader {
     }
 
     // The term, at the end of its text.
-    fn finish(&mut self, end: usize) -> Result<Term, TermFault>
-        requires sound { Sound self.old }
-        requires counted { Counted (partial self.old) }
-        ensures { Finished self.old end result }
+    fn finish(&self, end: usize) -> Result<Term, TermFault>
+        requires { Counted (partial self.now) }
+        ensures { Finished self.now end result }
     {
         match self.position {
-            Position::Behind(product) if self.open == 0 => {
-                let root = self.add(product);
+            Position::Behind(product) if self.depth == 0 => {
+                let mut nodes = self.nodes;
+                let root = nodes.add(self.sum, product);
                 Ok(Term {
-                    nodes: self.nodes,
-                    used: self.used,
+                    nodes,
                     root,
                     actions: self.actions,
-                    listing: Listing::of(&self.nodes[..self.used as usize], root),
+                    listing: Listing::of(nodes.subterm(root)),
                 })
             }
             _ => Err(TermFault::Early(end)),
@@ -219,6 +177,15 @@ impl Reader {
 }
 
 impl Term {
+    ghost use Rattle.std.specs.Prelude.{◌≡◌, IfOk, MatchResult};
+    ghost use Rattle.terms.specs.Faults.{TooLarge};
+    ghost use Rattle.terms.specs.Graph.{ByRules, graph};
+    ghost use Rattle.terms.specs.Grammar.{Spells, sum};
+    ghost use Rattle.terms.specs.Reading.{refusal_of};
+    ghost use Rattle.terms.specs.Scan.{first_refusal};
+    ghost use Rattle.terms.specs.Syntax.{Tree};
+    ghost use Rattle.terms.specs.Terms.{tree_of};
+
     // Reads a text: the term that it spells, or its first refusal.
     pub fn read(text: &[u8]) -> Result<Term, TermFault>
         ensures refuses { refusal_of result ≡ first_refusal text.now }

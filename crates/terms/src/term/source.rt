@@ -1,25 +1,23 @@
 // A term read as a source: its states are the places in its text.
-ghost use Rattle.std.specs.Prelude.{◌≡◌, ◌<◌, ◌≤◌, MatchOption};
+ghost use Rattle.std.specs.Prelude.{◌≡◌, IsSome, MatchOption};
+ghost use Rattle.std.specs.List.{slice_get};
 ghost use Rattle.std.proofs.Common.{lit≤};
 ghost use Rattle.lts.specs.Laws.Most.{wider};
-ghost use Rattle.terms.specs.Graph.{graph};
+ghost use Rattle.terms.specs.Graph.{contents, graph, leads};
 ghost use Rattle.terms.specs.Laws.Lawful.{term_lawful};
-ghost use Rattle.terms.specs.Lists.{run_of};
 ghost use Rattle.terms.specs.Terms.{tree_of};
 
-use crate::run::Run;
 use crate::term::Term;
 use lts::{Most, Source, System};
 
 impl Term {
     // The steps of a state, if there is such a state.
-    fn run(&self, s: usize) -> Option<Run>
-        ensures { MatchOption result (self.now.actions < s) (λ run. (s ≤ self.now.actions) × (run ≡ run_of self.now.listing s)) }
+    fn steps(&self, s: usize) -> Option<&[(u8, u8)]>
+        ensures { let held = slice_get (contents (tree_of self.now)) s in MatchOption result (held ≡ None) (λ steps. IsSome held × (steps.now ≡ leads held)) }
     {
-        if s > self.actions as usize {
-            return None;
-        }
-        Some(self.listing.runs[s])
+        let run = self.listing.runs[..self.states()].get(s)?;
+        let from = run.from as usize;
+        Some(&self.listing.steps[from..from + run.count as usize])
     }
 }
 
@@ -33,27 +31,15 @@ impl System for Term {
     }
 
     fn is_end(&self, s: usize) -> bool {
-        match self.run(s) {
-            Some(run) => run.count == 0,
-            None => false,
-        }
+        self.steps(s).is_some_and(|steps| steps.is_empty())
     }
 
     fn step_count(&self, s: usize) -> usize {
-        match self.run(s) {
-            Some(run) => run.count as usize,
-            None => 0,
-        }
+        self.steps(s).map_or(0, |steps| steps.len())
     }
 
     fn step(&self, s: usize, k: usize) -> Option<(u8, u8)> {
-        let Some(run) = self.run(s) else {
-            return None;
-        };
-        if k >= run.count as usize {
-            return None;
-        }
-        Some(self.listing.steps[run.from as usize + k])
+        self.steps(s)?.get(k).copied()
     }
 }
 

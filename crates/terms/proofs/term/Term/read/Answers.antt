@@ -12,13 +12,12 @@ returns-in_err-feed c =
 
 pub loop-offset-preserved : goal.loop-offset-preserved
 loop-offset-preserved c =
-    let h = c.in_ok-feed.ensures in
-    progress_more c.args.text.now c.loop-offset.offset c.loop-offset.reader c.feed.new.self c.loop-offset-test.true c.loop-offset.invariant h.0 h.1
+    progress_more c.args.text.now c.loop-offset.offset c.loop-offset.reader c.feed.new.self c.loop-offset-test.true c.loop-offset.invariant c.in_ok-feed.ensures
 
 pub finish-requires : goal.finish-requires
 finish-requires c =
     let e : c.loop-offset.offset ≡ length c.args.text.now = omega arith in
-    record { sound = c.loop-offset.invariant.sound; counted = progress_counted c.args.text.now c.loop-offset.reader (subst (λ n. Progress c.args.text.now n c.loop-offset.reader) e c.loop-offset.invariant) }
+    progress_counted c.args.text.now c.loop-offset.reader (subst (λ n. Progress c.args.text.now n c.loop-offset.reader) e c.loop-offset.invariant)
 
 pub returns : goal.returns
 returns c =
