@@ -46,7 +46,7 @@ fn holds<const N: usize, S: Source<N>>(
         Line::Not(i) => work[i as usize * n + s] == 0,
         Line::Both(i, j) => work[i as usize * n + s] == 1 && work[j as usize * n + s] == 1,
         Line::Step(action, i) => steps_into(source, s, action, &work[i as usize * n..]),
-        Line::Unknown(_) => unreachable(),
+        Line::Unknown(_) => unreachable!(),
     }
 }
 
