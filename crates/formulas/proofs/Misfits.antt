@@ -1,26 +1,21 @@
 -- The first line that does not fit.
-use Rattle.std.proofs.Common.{◌≡◌, ℕ, zero, suc, ◌+◌, ◌<◌, ◌≤◌, Bool, true, false, cond, List, [], ◌∷◌, length, get_or, drop, Some, None, sym, refl, ap, ◌∙◌, add-zero, add-suc, suc-add, zero-add, add-one, arith}
-use Rattle.std.proofs.lemmas.List.{at_drop_more, at_drop_all}
+use Rattle.std.proofs.Common.{◌≡◌, ℕ, zero, suc, ◌+◌, ◌<◌, Bool, true, false, cond, not, List, [], ◌∷◌, length, get_or, Some, None, sym, refl, ap, ◌∙◌, add-zero, add-suc, suc-add, zero-add, add-one, arith}
+use Rattle.std.specs.List.{enumerate_from, position_from}
 use Rattle.std.proofs.lemmas.Bool.{cond-true, cond-false}
 use Rattle.formulas.specs.declared.line.Line.{Line}
 use Rattle.formulas.specs.declared.line.Line.TheVariants.{True}
 use Rattle.formulas.specs.Lines.{fits, Wellformed}
 use Rattle.formulas.specs.Faults.{misfit_from}
 
--- the search, line after line
-module _ (lines : List Line) (k : ℕ) (so_far : misfit_from k (drop k lines) ≡ misfit_from 0 lines) where
-  next : k < length lines → misfit_from k (drop k lines) ≡ cond (fits k (get_or lines k True)) (misfit_from (suc k) (drop (k + 1) lines)) (Some k)
-  next h = at_drop_more (misfit_from k) lines k True h
-
-  pub misfit_here : k < length lines → fits k (get_or lines k True) ≡ false → Some k ≡ misfit_from 0 lines
-  misfit_here h f = sym (cond-false _ (misfit_from (suc k) (drop (k + 1) lines)) (Some k) f) ∙ sym (next h) ∙ so_far
-
-  pub misfit_more : k < length lines → fits k (get_or lines k True) ≡ true → misfit_from (k + 1) (drop (k + 1) lines) ≡ misfit_from 0 lines
-  misfit_more h f =
-      ap (λ j. misfit_from j (drop (k + 1) lines)) (add-one k) ∙ sym (cond-true _ (misfit_from (suc k) (drop (k + 1) lines)) (Some k) f) ∙ sym (next h) ∙ so_far
-
-  pub misfit_none : length lines ≤ k → None ≡ misfit_from 0 lines
-  misfit_none h = sym (at_drop_all (misfit_from k) lines k h) ∙ so_far
+-- the first of the numbered lines that does not fit its number
+pub misfit_numbered : (k : ℕ) (lines : List Line) → position_from (λ (p : ℕ × Line). not (fits p.0 p.1)) k (enumerate_from k lines) ≡ misfit_from k lines
+misfit_numbered k [] = refl
+misfit_numbered k (l ∷ lines) =
+    go (fits k l) (misfit_numbered (k + 1) lines ∙ ap (λ n. misfit_from n lines) (add-one k))
+  where
+    go : (b : Bool) → position_from (λ (p : ℕ × Line). not (fits p.0 p.1)) (k + 1) (enumerate_from (k + 1) lines) ≡ misfit_from (suc k) lines → cond (not b) (Some k) (position_from (λ (p : ℕ × Line). not (fits p.0 p.1)) (k + 1) (enumerate_from (k + 1) lines)) ≡ cond b (misfit_from (suc k) lines) (Some k)
+    go true e = e
+    go false e = refl
 
 -- no line is found exactly where all fit
 passed : (k : ℕ) (l : Line) (lines : List Line) → misfit_from k (l ∷ lines) ≡ None → (fits k l ≡ true) × (misfit_from (suc k) lines ≡ None)

@@ -1,5 +1,6 @@
 // Which evaluations are refused, row by row.
 ghost use Rattle.std.specs.Prelude.{◌≡◌};
+ghost use Rattle.std.specs.Result.{result_err};
 ghost use Rattle.formulas.specs.Lines.{fits};
 ghost use Rattle.formulas.specs.Faults.{misfit_from, first_fault};
 
@@ -18,8 +19,7 @@ fn fits_at(k: usize, line: Line) -> bool
     ensures { result ≡ fits k line }
 {
     match line {
-        Line::True => true,
-        Line::End => true,
+        Line::True | Line::End => true,
         Line::Not(i) => (i as usize) < k,
         Line::Both(i, j) => (i as usize) < k && (j as usize) < k,
         Line::Step(action, i) => action <= LAST_ACTION && (i as usize) < k,
@@ -31,36 +31,34 @@ fn fits_at(k: usize, line: Line) -> bool
 fn first_misfit(lines: &[Line]) -> Option<usize>
     ensures { result ≡ misfit_from 0 lines.now }
 {
-    for (k, line) in lines.iter().enumerate() {
-        if !fits_at(k, *line) {
-            return Some(k);
-        }
-    }
-    None
+    lines
+        .iter()
+        .enumerate()
+        .position(|(k, line)| !fits_at(k, *line))
 }
 
-// The first row that refuses the evaluation of line i at state s of the source.
-pub(crate) fn refused<S: System>(
+// Lets the evaluation of line i at state s of the source pass, or tells the first row that refuses it.
+pub(crate) fn admitted<S: System>(
     source: &S,
     lines: &[Line],
     i: usize,
     s: usize,
     room: usize,
-) -> Option<EvaluationFault>
-    ensures { result ≡ first_fault lines.now i s (S.meaning source.now).count room }
+) -> Result<(), EvaluationFault>
+    ensures { result_err result ≡ first_fault lines.now i s (S.meaning source.now).count room }
 {
     let n = source.states();
     if lines.is_empty() || lines.len() > MOST_LINES {
-        return Some(EvaluationFault::Count);
+        return Err(EvaluationFault::Count);
     }
     if let Some(k) = first_misfit(lines) {
-        return Some(EvaluationFault::Line(k));
+        return Err(EvaluationFault::Line(k));
     }
     if i >= lines.len() || s >= n {
-        return Some(EvaluationFault::Absent);
+        return Err(EvaluationFault::Absent);
     }
     if room < lines.len() * n {
-        return Some(EvaluationFault::Room);
+        return Err(EvaluationFault::Room);
     }
-    None
+    Ok(())
 }

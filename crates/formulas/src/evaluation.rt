@@ -4,27 +4,30 @@ ghost use Rattle.theory.specs.Formulas.{Holds};
 ghost use Rattle.formulas.specs.Lines.{formula};
 ghost use Rattle.formulas.specs.Evaluation.{Enters, RowsMarked, Ready, Evaluated};
 
-use crate::admission::refused;
+use crate::admission::admitted;
 use crate::fault::EvaluationFault;
 use crate::line::Line;
 use lts::System;
 
 // Whether some step of state s by the action leads to a state that the row marks.
+// No `any`: of a closure that asks a generic source nothing is known but by a clause of its own, longer than this loop.
 fn steps_into<S: System>(source: &S, s: usize, action: u8, row: &[u8]) -> bool
     requires { (S.meaning source.now).count ≤ length row.now }
     ensures { Decides result (Enters ((S.meaning source.now).steps s) action row.now) }
 {
     for k in 0..source.step_count(s) {
-        if let Some((a, t)) = source.step(s, k) {
-            if a == action && row[t as usize] == 1 {
-                return true;
-            }
+        if let Some((a, t)) = source.step(s, k)
+            && a == action
+            && row[t as usize] == 1
+        {
+            return true;
         }
     }
     false
 }
 
 // Whether line k holds at state s, where the lines before it are marked.
+// The marks are bytes, 1 or 0, and no truth values: the working buffer comes from C as bytes.
 fn holds<S: System>(
     source: &S,
     lines: &[Line],
@@ -43,7 +46,7 @@ fn holds<S: System>(
         Line::Not(i) => work[i as usize * n + s] == 0,
         Line::Both(i, j) => work[i as usize * n + s] == 1 && work[j as usize * n + s] == 1,
         Line::Step(action, i) => steps_into(source, s, action, &work[i as usize * n..]),
-        Line::Unknown(_) => unreachable(),
+        Line::Unknown(_) => unreachable!(),
     }
 }
 
@@ -69,9 +72,7 @@ pub fn evaluate<S: System>(
 ) -> Result<bool, EvaluationFault>
     ensures { Evaluated (S.meaning source.now) lines.now line state work.old result work.new }
 {
-    if let Some(fault) = refused(source, lines, line, state, work.len()) {
-        return Err(fault);
-    }
+    admitted(source, lines, line, state, work.len())?;
     for k in 0..lines.len() {
         mark_line(source, lines, k, work);
     }

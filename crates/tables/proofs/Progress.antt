@@ -91,7 +91,7 @@ progress_start {file} {r} {r'} {x} at d o h here b =
 
 pub progress_more : {file : List ℕ} {r r' : Records} {x : Lent} {d : Draft} (at : ℕ) (d' : Draft) → Progress file r d → Passed r x r' → at ≡ r'.offset → Taken (rec_of at x) (Ok tt) d d' → Progress file r' d'
 progress_more {file} {r} {r'} {x} at d' p h here t =
-    let k = t.1 p.first p.more p.draws in
+    let k = t p.first p.more p.draws in
     record { same = h.file_is ∙ p.same; first = p.first; more = p.more ++ rec_of at x ∷ []; draws = k.1; before = next_more file r r' (p.first ∷ p.more) p.same p.before x at h here k.0 }
 
 pub progress_refused : {file : List ℕ} {r r' : Records} {x : Lent} {d : Draft} (at : ℕ) (d' : Draft) (f : TableFault) → Progress file r d → Passed r x r' → at ≡ r'.offset → Taken (rec_of at x) (Err f) d d' → refused [] (entries file) ≡ Some f

@@ -4,11 +4,12 @@ use Rattle.std.proofs.lemmas.List.{take_more_set, length-take-le}
 use Rattle.std.proofs.lemmas.Bool.{le-ltb, lt-leb, eq-eqb, ne_eqb, cases_eq, or_right}
 use Rattle.lts.specs.Meaning.{In}
 use Rattle.lts.specs.Laws.Member.{in_either}
-use Rattle.tables.specs.Kinds.{head, end, step, remark}
+use Rattle.tables.specs.Kinds.{end, step, remark}
 use Rattle.tables.specs.Drawing.{byte, ended, names_end, steps_of, step_of, out_of}
 use Rattle.tables.specs.Records.{Rec}
 use Rattle.tables.specs.Rows.{fault}
-use Rattle.tables.specs.Drafts.{Inside, Numbers, Held, Draws, Blank, drawn}
+use Rattle.tables.specs.Drafts.{Draws, drawn}
+use Rattle.tables.specs.Held.{Inside, Numbers, Held}
 use Rattle.tables.specs.declared.draft.Draft.{Draft}
 use Rattle.tables.specs.declared.step.Step.{Step}
 use Rattle.tables.proofs.Outgoing.{out_here, out_other, numbers_set}
@@ -30,33 +31,30 @@ pub steps_push : (rs : List Rec) (r : Rec) → steps_of (rs ++ r ∷ []) ≡ ste
 steps_push [] r = append-nil (step_of r.kind r.body)
 steps_push (x ∷ rs) r = rw (steps_push rs r) (sym (append_assoc (step_of x.kind x.body) (steps_of rs) (step_of r.kind r.body)))
 
-abbrev pub headed : ℕ → List ℕ → Rec
-headed at body = record { place = at; kind = head; body = body }
+-- a step more, or an end more, and a draft holds what it held
+module _ {states : ℕ} {ends : List Bool} {counts : List ℕ} {steps : List Step} {used : ℕ} (held : Held states ends counts steps used) where
+  module _ (x : Step) (room : used < 512) where
+    pub steps_more : take (used + 1) (set steps used x) ≡ take used steps ++ x ∷ []
+    steps_more = let p = held.places in take_more_set steps used x (omega arith)
 
--- the first record is a head that tells n
-pub begin : (at : ℕ) (body : List ℕ) (d : Draft) → length body ≡ 1 → 1 ≤ byte body 0 → byte body 0 ≤ 128 → Blank (byte body 0) d → (fault [] (headed at body) ≡ None) × Draws (headed at body) [] d
-begin at body d one low high b =
-    (rw (eq-eqb (length body) 1 one, le-ltb (byte body 0) 1 low, le-ltb 128 (byte body 0) high), record { held = held; states = b.states; ends = λ s l. b.ends s (omega (arith, b.states)); no_ends = λ s l. refl; steps = nothing })
-  where
-    nothing : drawn d ≡ []
-    nothing = ap (λ n. take n d.steps) b.used
+    module _ (inside : Inside states x) where
+      -- the steps out of the state that the step leaves are one more
+      counted : Numbers (λ s. length (out_of s (take (used + 1) (set steps used x)))) (set counts x.from (get_or counts x.from 0 + 1))
+      counted =
+          let f = inside.from in
+          let n = held.few in
+          let from : x.from < 129 = omega arith in
+          rw steps_more (numbers_set held.counted x.from (get_or counts x.from 0 + 1) from (ap (λ c. c + 1) (held.counted.each x.from from) ∙ sym (out_here (take used steps) x)) (λ s ne. sym (out_other (take used steps) x s ne)))
 
-    none : Numbers d.states (λ s. length (out_of s (drawn d))) d.counts
-    none =
-        let e = b.states in
-        record { size = b.counts.size; each = λ s l. b.counts.each s (omega arith) ∙ sym (ap (λ xs. length (out_of s xs)) nothing) }
+      pub held_step : Held states ends (set counts x.from (get_or counts x.from 0 + 1)) (set steps used x) (used + 1)
+      held_step = record { some = held.some; few = held.few; marks = held.marks; counted = counted; places = simp length-set held.places; room = omega arith; inside = all_inside }
+        where
+          last : (y : Step) → In y (x ∷ []) → Inside states y
+          last y (inl e) = subst (Inside states) (sym e) inside
+          last y (inr n) = absurd n
 
-    held : Held d
-    held =
-        let e = b.states in
-        let u = b.used in
-        record { some = omega arith; few = omega arith; marks = b.marks; counts = none; places = b.places; room = omega arith; inside = λ x h. let k : ⊥ = subst (In x) nothing h in absurd k }
-
-abbrev pub with_end : Draft → ℕ → Draft
-with_end d s = record { states = d.states; ends = set d.ends s true; counts = d.counts; steps = d.steps; used = d.used }
-
-abbrev pub with_step : Draft → Step → Draft
-with_step d x = record { states = d.states; ends = d.ends; counts = set d.counts x.from (get_or d.counts x.from 0 + 1); steps = set d.steps d.used x; used = d.used + 1 }
+          all_inside : (y : Step) → In y (take (used + 1) (set steps used x)) → Inside states y
+          all_inside y i = ⊎_elim (held.inside y) (last y) (in_either y (take used steps) (x ∷ []) (subst (In y) steps_more i))
 
 -- a draft that keeps its steps under a record that draws none
 same_steps : (h : Rec) (rs : List Rec) (d : Draft) (x : Rec) → Draws h rs d → step_of x.kind x.body ≡ [] → drawn d ≡ steps_of (h ∷ (rs ++ x ∷ []))
@@ -76,75 +74,53 @@ module _ (h : Rec) (rs : List Rec) (d : Draft) (x : Rec) (w : Draws h rs d) (e :
 abbrev pub remarked : ℕ → List ℕ → Rec
 remarked at body = record { place = at; kind = remark; body = body }
 
-abbrev pub ender : ℕ → List ℕ → Rec
-ender at body = record { place = at; kind = end; body = body }
+abbrev pub ender : ℕ → ℕ → Rec
+ender at state = record { place = at; kind = end; body = state ∷ [] }
 
-abbrev pub stepper : ℕ → List ℕ → Rec
-stepper at body = record { place = at; kind = step; body = body }
-
-abbrev pub told : List ℕ → Step
-told body = record { from = byte body 0; action = byte body 1; to = byte body 2 }
+abbrev pub stepper : ℕ → Step → Rec
+stepper at x = record { place = at; kind = step; body = x.from ∷ x.action ∷ x.to ∷ [] }
 
 pub take_remark : (at : ℕ) (body : List ℕ) (h : Rec) (rs : List Rec) (d : Draft) → Draws h rs d → (fault (h ∷ rs) (remarked at body) ≡ None) × Draws h (rs ++ remarked at body ∷ []) d
 take_remark at body h rs d w =
     let x = remarked at body in
-    (refl, record { held = w.held; states = w.states; ends = same_ends h rs d x w (λ s. refl); no_ends = same_no_ends h rs d x w (λ s. refl); steps = same_steps h rs d x w refl })
+    (refl, record { states = w.states; ends = same_ends h rs d x w (λ s. refl); no_ends = same_no_ends h rs d x w (λ s. refl); steps = same_steps h rs d x w refl })
 
-module _ (at : ℕ) (body : List ℕ) (d : Draft) (one : length body ≡ 1) (below : byte body 0 < d.states) where
-  pub hold_end : Held d → Held (with_end d (byte body 0))
-  hold_end k = record { some = k.some; few = k.few; marks = simp length-set k.marks; counts = k.counts; places = k.places; room = k.room; inside = k.inside }
+module _ (at state : ℕ) (d : Draft) (below : state < d.states) (h : Rec) (rs : List Rec) (w : Draws h rs d) where
+  marked : (s : ℕ) → s < d.states → (s ≡ state) ⊎ (s ≡ state → ⊥) → get_or (set d.ends state true) s false ≡ (ended s (h ∷ rs) || eqb s state)
+  marked s l (inl e) =
+      let m = d.held.marks in
+      let f = d.held.few in
+      let i : state < length d.ends = omega arith in
+      let b : (ended state (h ∷ rs) || eqb state state) ≡ true = or_right (ended state (h ∷ rs)) (eqb state state) (eq-eqb state state refl) in
+      subst (λ z. get_or (set d.ends state true) z false ≡ (ended z (h ∷ rs) || eqb z state)) (sym e) (get_or-set_same d.ends state true false i ∙ sym b)
+  marked s l (inr n) =
+      rw (ne_eqb s state n) (get_or-set_other d.ends state s true false n ∙ (w.ends s l ∙ sym (or_last (ended s (h ∷ rs)))))
 
-  module _ (h : Rec) (rs : List Rec) (w : Draws h rs d) where
-    marked : (s : ℕ) → s < d.states → (s ≡ byte body 0) ⊎ (s ≡ byte body 0 → ⊥) → get_or (set d.ends (byte body 0) true) s false ≡ (ended s (h ∷ rs) || eqb s (byte body 0))
-    marked s l (inl e) =
-        let m = w.held.marks in
-        let f = w.held.few in
-        let i : byte body 0 < length d.ends = omega arith in
-        let b : (ended (byte body 0) (h ∷ rs) || eqb (byte body 0) (byte body 0)) ≡ true = or_right (ended (byte body 0) (h ∷ rs)) (eqb (byte body 0) (byte body 0)) (eq-eqb (byte body 0) (byte body 0) refl) in
-        subst (λ z. get_or (set d.ends (byte body 0) true) z false ≡ (ended z (h ∷ rs) || eqb z (byte body 0))) (sym e) (get_or-set_same d.ends (byte body 0) true false i ∙ sym b)
-    marked s l (inr n) =
-        rw (ne_eqb s (byte body 0) n) (get_or-set_other d.ends (byte body 0) s true false n ∙ (w.ends s l ∙ sym (or_last (ended s (h ∷ rs)))))
+  unmarked : (s : ℕ) → d.states ≤ s → (ended s (h ∷ rs) || eqb s state) ≡ false
+  unmarked s l = rw (w.no_ends s l, ne_eqb s state (λ e. omega arith))
 
-    unmarked : (s : ℕ) → d.states ≤ s → (ended s (h ∷ rs) || eqb s (byte body 0)) ≡ false
-    unmarked s l = rw (w.no_ends s l, ne_eqb s (byte body 0) (λ e. omega arith))
+  abbrev pub with_end : Held d.states (set d.ends state true) d.counts d.steps d.used → Draft
+  with_end held = record { states = d.states; ends = set d.ends state true; counts = d.counts; steps = d.steps; used = d.used; held = held }
 
-    pub take_end : (fault (h ∷ rs) (ender at body) ≡ None) × Draws h (rs ++ (ender at body) ∷ []) (with_end d (byte body 0))
-    take_end =
-        let n = w.states in
-        let l : byte body 0 < byte h.body 0 = omega arith in
-        (rw (eq-eqb (length body) 1 one, lt-leb (byte h.body 0) (byte body 0) l), record { held = hold_end w.held; states = w.states; ends = λ s i. marked s i (cases_eq s (byte body 0)) ∙ sym (ended_push s (h ∷ rs) (ender at body)); no_ends = λ s i. ended_push s (h ∷ rs) (ender at body) ∙ unmarked s i; steps = same_steps h rs d (ender at body) w refl })
+  pub take_end : (held : Held d.states (set d.ends state true) d.counts d.steps d.used) → (fault (h ∷ rs) (ender at state) ≡ None) × Draws h (rs ++ ender at state ∷ []) (with_end held)
+  take_end held =
+      let n = w.states in
+      let l : state < byte h.body 0 = omega arith in
+      (rw (lt-leb (byte h.body 0) state l) refl, record { states = w.states; ends = λ s i. marked s i (cases_eq s state) ∙ sym (ended_push s (h ∷ rs) (ender at state)); no_ends = λ s i. ended_push s (h ∷ rs) (ender at state) ∙ unmarked s i; steps = same_steps h rs d (ender at state) w refl })
 
-module _ (at : ℕ) (body : List ℕ) (d : Draft) (three : length body ≡ 3) (room : d.used < 512) where
-  module _ (inside : Inside d.states (told body)) (k : Held d) where
-    more_drawn : drawn (with_step d (told body)) ≡ drawn d ++ (told body) ∷ []
-    more_drawn = let p = k.places in take_more_set d.steps d.used (told body) (omega arith)
+module _ (at : ℕ) (d : Draft) (x : Step) (room : d.used < 512) (inside : Inside d.states x) (h : Rec) (rs : List Rec) (w : Draws h rs d) where
+  abbrev pub with_step : Held d.states d.ends (set d.counts x.from (get_or d.counts x.from 0 + 1)) (set d.steps d.used x) (d.used + 1) → Draft
+  with_step held = record { states = d.states; ends = d.ends; counts = set d.counts x.from (get_or d.counts x.from 0 + 1); steps = set d.steps d.used x; used = d.used + 1; held = held }
 
-    -- the steps out of the state that the step leaves are one more
-    counted : Numbers d.states (λ s. length (out_of s (drawn (with_step d (told body))))) (with_step d (told body)).counts
-    counted =
-        let f = inside.from in
-        let n = k.few in
-        rw more_drawn (numbers_set k.counts (omega arith) (byte body 0) (get_or d.counts (byte body 0) 0 + 1) (omega arith) (ap (λ c. c + 1) (k.counts.each (byte body 0) (omega arith)) ∙ sym (out_here (drawn d) (told body))) (λ s ne. sym (out_other (drawn d) (told body) s ne)))
-
-    pub hold_step : Held (with_step d (told body))
-    hold_step = record { some = k.some; few = k.few; marks = k.marks; counts = counted; places = simp length-set k.places; room = omega arith; inside = all_inside }
-      where
-        last : (x : Step) → In x ((told body) ∷ []) → Inside d.states x
-        last x (inl e) = subst (Inside d.states) (sym e) inside
-        last x (inr n) = absurd n
-
-        all_inside : (x : Step) → In x (drawn (with_step d (told body))) → Inside d.states x
-        all_inside x i = ⊎_elim (k.inside x) (last x) (in_either x (drawn d) ((told body) ∷ []) (subst (In x) more_drawn i))
-
-    pub take_step : (h : Rec) (rs : List Rec) → Draws h rs d → (fault (h ∷ rs) (stepper at body) ≡ None) × Draws h (rs ++ (stepper at body) ∷ []) (with_step d (told body))
-    take_step h rs w =
-        let n = w.states in
-        let p = k.places in
-        let f = inside.from in
-        let t = inside.to in
-        let from : byte body 0 < byte h.body 0 = omega arith in
-        let to : byte body 2 < byte h.body 0 = omega arith in
-        let all = length-take-le d.used d.steps (omega arith) in
-        let len = ap length w.steps in
-        let few : length (steps_of (h ∷ rs)) < 512 = omega arith in
-        (rw (eq-eqb (length body) 3 three, lt-leb (byte h.body 0) (byte body 0) from, le-ltb 63 (byte body 1) inside.action, lt-leb (byte h.body 0) (byte body 2) to, lt-leb 512 (length (steps_of (h ∷ rs))) few), record { held = hold_step; states = w.states; ends = same_ends h rs d (stepper at body) w (λ s. refl); no_ends = same_no_ends h rs d (stepper at body) w (λ s. refl); steps = more_drawn ∙ (ap (λ xs. xs ++ (told body) ∷ []) w.steps ∙ sym (steps_push (h ∷ rs) (stepper at body))) })
+  pub take_step : (held : Held d.states d.ends (set d.counts x.from (get_or d.counts x.from 0 + 1)) (set d.steps d.used x) (d.used + 1)) → (fault (h ∷ rs) (stepper at x) ≡ None) × Draws h (rs ++ stepper at x ∷ []) (with_step held)
+  take_step held =
+      let n = w.states in
+      let p = d.held.places in
+      let f = inside.from in
+      let t = inside.to in
+      let from : x.from < byte h.body 0 = omega arith in
+      let to : x.to < byte h.body 0 = omega arith in
+      let all = length-take-le d.used d.steps (omega arith) in
+      let len = ap length w.steps in
+      let few : length (steps_of (h ∷ rs)) < 512 = omega arith in
+      (rw (lt-leb (byte h.body 0) x.from from, le-ltb 63 x.action inside.action, lt-leb (byte h.body 0) x.to to, lt-leb 512 (length (steps_of (h ∷ rs))) few) refl, record { states = w.states; ends = same_ends h rs d (stepper at x) w (λ s. refl); no_ends = same_no_ends h rs d (stepper at x) w (λ s. refl); steps = steps_more d.held x room ∙ (ap (λ xs. xs ++ x ∷ []) w.steps ∙ sym (steps_push (h ∷ rs) (stepper at x))) })

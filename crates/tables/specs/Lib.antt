@@ -6,6 +6,7 @@ pub mod Lent
 pub mod Reading
 pub mod Drawing
 pub mod Rows
+pub mod Held
 pub mod Drafts
 pub mod Tables
 pub mod Laws

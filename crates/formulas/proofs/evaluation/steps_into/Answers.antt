@@ -9,8 +9,8 @@ bounds-row-t g c =
     let l = listed_target m (g.met.S.System.lawful c.args.source.now) c.args.s c.loop-k.k c.in-Some.a c.in-Some.t c.in-Some.ensures in
     omega (arith, c.requires)
 
-pub returns-then-row-t-eq1 : goal.returns-then-row-t-eq1
-returns-then-row-t-eq1 g c =
+pub returns-in-loop-k : goal.returns-in-loop-k
+returns-in-loop-k g c =
     enters ((g.S.System.meaning c.args.source.now).steps c.args.s) c.args.action c.args.row.now c.loop-k.k c.in-Some.a c.in-Some.t c.in-Some.ensures (omega arith) (omega arith)
 
 pub returns : goal.returns
