@@ -7,34 +7,19 @@ ghost use Rattle.formulas.specs.Evaluation.{Enters, RowsMarked, Ready, Evaluated
 use crate::admission::admitted;
 use crate::fault::EvaluationFault;
 use crate::line::Line;
+use crate::marked::first_marked;
 use lts::System;
 
 // Whether some step of state s by the action leads to a state that the row marks.
-// No `any`: of a closure that asks a generic source nothing is known but by a clause of its own, longer than this loop.
 fn steps_into<S: System>(source: &S, s: usize, action: u8, row: &[u8]) -> bool
-    requires { (S.meaning source.now).count ≤ length row.now }
     ensures { Decides result (Enters ((S.meaning source.now).steps s) action row.now) }
 {
-    for k in 0..source.step_count(s) {
-        if let Some((a, t)) = source.step(s, k)
-            && a == action
-            && row[t as usize] == 1
-        {
-            return true;
-        }
-    }
-    false
+    first_marked(source, s, action, row).is_some()
 }
 
 // Whether line k holds at state s, where the lines before it are marked.
 // The marks are bytes, 1 or 0, and no truth values: the working buffer comes from C as bytes.
-fn holds<S: System>(
-    source: &S,
-    lines: &[Line],
-    k: usize,
-    s: usize,
-    work: &[u8],
-) -> bool
+fn holds<S: System>(source: &S, lines: &[Line], k: usize, s: usize, work: &[u8]) -> bool
     requires ready { Ready (S.meaning source.now) lines.now k work.now }
     requires state { s < (S.meaning source.now).count }
     ensures { Decides result (Holds (S.meaning source.now) s (formula lines.now k)) }

@@ -6,7 +6,9 @@ mod admission;
 pub mod evaluation;
 pub mod fault;
 pub mod line;
+pub mod marked;
 
 pub use evaluation::evaluate;
 pub use fault::EvaluationFault;
 pub use line::Line;
+pub use marked::first_marked;

@@ -1,5 +1,4 @@
-use Rattle.std.proofs.Common.{◌*◌, arith, rules}
-use Rattle.std.proofs.lemmas.List.{take_rest, length-drop}
+use Rattle.std.proofs.Common.{arith, rules}
 use Rattle.formulas.proofs.Marking.{names_not, names_both, names_step, place_inside, row_inside, holds_true, holds_end, holds_not, holds_second, fails_first, holds_step}
 use Rattle.formulas.proofs.evaluation.holds.Goals as goal
 
@@ -29,14 +28,6 @@ slice_bounds-steps_into-start g c =
     let i = names_step c.requires.ready c.states-n.ensures c.in-Step.is in
     let r = row_inside c.requires.ready c.states-n.ensures c.in-Step.i i in
     search rules
-
-pub steps_into-requires : goal.steps_into-requires
-steps_into-requires g c =
-    let i = names_step c.requires.ready c.states-n.ensures c.in-Step.is in
-    let r = row_inside c.requires.ready c.states-n.ensures c.in-Step.i i in
-    let e = c.states-n.ensures in
-    let d = length-drop (c.in-Step.i * c.states-n.result) c.args.work.now in
-    rw (take_rest c.args.work.now (c.in-Step.i * c.states-n.result)) (omega arith)
 
 pub returns-in-True : goal.returns-in-True
 returns-in-True g c =

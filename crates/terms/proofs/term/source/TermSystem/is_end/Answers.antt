@@ -1,10 +1,6 @@
-use Rattle.std.proofs.Common.{sym, ap}
-use Rattle.terms.specs.Graph.{ended}
-use Rattle.terms.proofs.Asking.{ends, nothing}
+use Rattle.std.proofs.Common.{rules}
+use Rattle.terms.proofs.Asking.{told_end}
 use Rattle.terms.proofs.term.source.TermSystem.is_end.Goals as goal
 
-pub returns-in-Some : goal.returns-in-Some
-returns-in-Some c = ends c.args.self.now c.args.s c.in-Some.run' c.in-Some.ensures
-
-pub returns-in-None : goal.returns-in-None
-returns-in-None c = sym (ap ended (nothing c.args.self.now c.args.s c.in-None.ensures))
+pub returns : goal.returns
+returns c = told_end (λ r. r.now) _ c.steps.result c.is_some_and.result _ c.steps.ensures (λ r p. search rules) c.is_some_and.ensures
