@@ -9,6 +9,7 @@ mod subterm;
 use crate::node::Node;
 pub use subterm::{Parts, Subterm};
 
+// The core allocates nothing: so the table is an array, of which so many places are used.
 #[derive(Clone, Copy)]
 pub struct Nodes {
     table: [Node; 125],
@@ -70,14 +71,5 @@ impl Nodes {
             None => product,
             Some(sum) => self.push(Node::Choice(sum, product)),
         }
-    }
-
-    // A node, with what stands below it.
-    pub fn subterm(&self, node: u8) -> Subterm<'_>
-        requires { node < self.now.used }
-        ensures nodes { result.nodes.now ≡ self.now }
-        ensures node { result.node ≡ node }
-    {
-        Subterm { nodes: self, node }
     }
 }
