@@ -8,10 +8,9 @@ use Rattle.terms.specs.Syntax.{Tree, leaf, choice, sequence, size, Rest, done, l
 use Rattle.terms.specs.Graph.{firsts, contents, ended, leads}
 use Rattle.terms.specs.Terms.{tree_of}
 use Rattle.terms.specs.Laws.Lawful.{length_rests, nothing_past}
-use Rattle.terms.specs.Lists.{span, run_of, steps_of}
+use Rattle.terms.specs.Lists.{span, run_of}
 use Rattle.terms.specs.declared.run.Run.{Run}
 use Rattle.terms.specs.declared.term.Term.{Term}
-use Rattle.terms.proofs.Runs.{same_is}
 
 -- something can always come first
 some_first : (x : Tree) → 0 < length (firsts x)
@@ -49,7 +48,7 @@ module _ (t : Term) (states s : ℕ) (run : Run) (e : states ≡ 1 + size (tree_
       let room = t.listing.steps_room in
       let inside = run_inside in
       let held = slice_get-get_or (contents (tree_of t)) s done (omega (arith, length_rests (tree_of t))) in
-      let span_is : span t.listing.steps run.from run.count ≡ leads (slice_get (contents (tree_of t)) s) = ap (λ (r : Run). span t.listing.steps r.from r.count) its_run ∙ same_is (steps_of t.listing s) (leads (slice_get (contents (tree_of t)) s)) (t.listed s l) in
+      let span_is : span t.listing.steps run.from run.count ≡ leads (slice_get (contents (tree_of t)) s) = ap (λ (r : Run). span t.listing.steps r.from r.count) its_run ∙ t.listed s l in
       (ap is_some held, rw g (row_span t.listing.steps run.from run.count (omega arith) ∙ span_is))
 
 -- past the last state

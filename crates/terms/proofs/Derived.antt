@@ -1,11 +1,10 @@
 -- The graph of a term is the one that the rules derive.
-use Rattle.std.proofs.Common.{◌≡◌, ℕ, true, Some, None, Decides, Option, refl}
+use Rattle.std.proofs.Common.{◌≡◌, ℕ, Some, None, Decides, Option, refl}
 use Rattle.std.specs.List.{slice_get}
 use Rattle.lts.specs.Meaning.{In}
-use Rattle.terms.specs.Syntax.{Tree, size, Rest, done, left}
+use Rattle.terms.specs.Syntax.{Tree, size, Numbered, Rest, done, left}
 use Rattle.terms.specs.Graph.{contents, firsts, ended, leads, graph, ByRules}
-use Rattle.terms.specs.Nodes.{numbered}
-use Rattle.terms.specs.Laws.Order.{is_numbered, within_rises, never}
+use Rattle.terms.specs.Laws.Order.{within_rises, never}
 use Rattle.terms.specs.Laws.Lawful.{leads_within}
 use Rattle.terms.proofs.Steps.{step_of_first, first_of_step, derived, stepped, reached}
 
@@ -20,9 +19,8 @@ ending None = (λ e. never (cc), λ e. never (cc))
 ending (Some done) = (λ e. refl, λ e. refl)
 ending (Some (left x)) = (λ e. never (cc), λ e. never (cc))
 
-pub by_rules : (t : Tree) → numbered 0 t ≡ true → ByRules t (graph t)
-by_rules t order =
-    let n = is_numbered 0 t order in
+pub by_rules : (t : Tree) → Numbered 0 t → ByRules t (graph t)
+by_rules t n =
     record {
       count = refl;
       ends = λ s. ending (slice_get (contents t) s);

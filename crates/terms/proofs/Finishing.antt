@@ -1,10 +1,9 @@
 -- The end of a text.
-use Rattle.std.proofs.Common.{◌≡◌, ℕ, zero, suc, ◌+◌, ◌≤◌, true, List, [], length, Some, sym, refl, ap, ◌∙◌, arith}
+use Rattle.std.proofs.Common.{◌≡◌, ℕ, zero, suc, ◌+◌, ◌≤◌, List, [], length, Some, sym, refl, ap, ◌∙◌, arith}
 use Rattle.std.specs.List.{slice_get}
-use Rattle.terms.specs.Syntax.{Tree, size}
-use Rattle.terms.specs.Nodes.{numbered}
+use Rattle.terms.specs.Syntax.{Tree, size, Numbered}
 use Rattle.terms.specs.Graph.{contents, leads}
-use Rattle.terms.specs.Lists.{run_of, steps_of, same_steps, Lays}
+use Rattle.terms.specs.Lists.{run_of, steps_of, Lays}
 use Rattle.terms.specs.Assembly.{past, plus}
 use Rattle.terms.specs.Names.{known, one, stacked}
 use Rattle.terms.specs.Reader.{partial, place, opened, Counted, scanned}
@@ -17,7 +16,6 @@ use Rattle.terms.specs.declared.term.reader.Frame.{Frame}
 use Rattle.terms.specs.declared.term.reader.Reader.{Reader}
 use Rattle.terms.specs.declared.term.reader.Position.TheVariants.{Behind}
 use Rattle.terms.proofs.Moves.{same_partial}
-use Rattle.terms.proofs.Runs.{same_same}
 
 length_stacked : (f : ℕ → Tree) (fs : List Frame) (n : ℕ) → length (opened f (stacked fs n)) ≡ n
 length_stacked f fs zero = refl
@@ -42,8 +40,8 @@ module _ (r : Reader) (n : Nodes) (x k : ℕ) (c : Counted (partial r)) (e : r.p
   pub end_size : size (at n k) ≡ r.actions
   end_size = ap size j.tree ∙ (c (partial r).sum (at r.nodes x) r.actions (whole r x e o)).0
 
-  pub end_order : numbered 0 (at n k) ≡ true
-  end_order = ap (numbered 0) j.tree ∙ (c (partial r).sum (at r.nodes x) r.actions (whole r x e o)).1
+  pub end_order : Numbered 0 (at n k)
+  end_order = rw j.tree ((c (partial r).sum (at r.nodes x) r.actions (whole r x e o)).1)
 
   module _ (l : Listing) (lays : Lays (at n k) l) where
     pub end_inside : (s : ℕ) → s ≤ r.actions → (run_of l s).from + (run_of l s).count ≤ 63
@@ -53,5 +51,5 @@ module _ (r : Reader) (n : Nodes) (x k : ℕ) (c : Counted (partial r)) (e : r.p
         let few = r.few in
         omega (arith, end_size)
 
-    pub end_listed : (s : ℕ) → s ≤ r.actions → same_steps (steps_of l s) (leads (slice_get (contents (at n k)) s)) ≡ true
-    end_listed s h = same_same (steps_of l s) (leads (slice_get (contents (at n k)) s)) (lays.each s (omega (arith, end_size))).steps
+    pub end_listed : (s : ℕ) → s ≤ r.actions → steps_of l s ≡ leads (slice_get (contents (at n k)) s)
+    end_listed s h = (lays.each s (omega (arith, end_size))).steps

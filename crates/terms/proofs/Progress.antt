@@ -1,15 +1,14 @@
 -- Reading a text from its front: what holds after each byte, and at the end.
-use Rattle.std.proofs.Common.{◌≡◌, ℕ, suc, ◌+◌, ◌<◌, ◌≤◌, true, eqb, leb, List, [], ◌∷◌, ◌++◌, length, get_or, take, drop, IfOk, Some, None, Ok, Err, Option, Result, sym, refl, ap, ◌∙◌, subst, ⊎_elim, arith, MatchResult}
+use Rattle.std.proofs.Common.{◌≡◌, ℕ, ◌+◌, ◌<◌, ◌≤◌, List, [], ◌∷◌, ◌++◌, length, get_or, take, drop, IfOk, Some, None, Ok, Err, Option, Result, sym, refl, ap, ◌∙◌, subst, ⊎_elim, arith, MatchResult}
 use Rattle.std.proofs.lemmas.List.{take_more, drop_more, take_all, drop_all}
-use Rattle.std.proofs.lemmas.Bool.{le-ltb, and_from, le-leb, eq-eqb}
+use Rattle.std.proofs.lemmas.Bool.{le-ltb}
 use Rattle.terms.specs.declared.fault.TermFault.{TermFault}
 use Rattle.terms.specs.declared.term.Term.{Term}
 use Rattle.terms.specs.declared.term.reader.Reader.{Reader}
 use Rattle.terms.specs.Faults.{TooLarge}
-use Rattle.terms.specs.Syntax.{Tree, size}
+use Rattle.terms.specs.Syntax.{Tree, size, Numbered}
 use Rattle.terms.specs.Grammar.{Level, Spells, sum, action, bracket, one_operand, more_operands, one_product, more_products}
 use Rattle.terms.specs.Graph.{ByRules, graph}
-use Rattle.terms.specs.Nodes.{numbered}
 use Rattle.terms.specs.Scan.{first_refusal}
 use Rattle.terms.specs.Assembly.{Partial, start, past, plus, feed, feeds, then_feeds}
 use Rattle.terms.specs.Reader.{partial, scanned, Counted, Finished}
@@ -57,13 +56,13 @@ progress_stop text i r f l p h =
     sym (subst (λ zs. scanned (partial r) i zs ≡ scanned start 0 text) (drop_more text i 0 l) p.rest) ∙ h (drop (i + 1) text)
 
 -- actions are numbered as they are written
-spells_numbered : {l : Level} {i : ℕ} {xs : List ℕ} {t : Tree} → Spells l i xs t → numbered i t ≡ true
-spells_numbered (action {i} {c} {a} d) = let b = letter_bound d in and_from (leb a 63) (eqb (suc i) (suc i)) (le-leb a 63 (omega arith)) (eq-eqb (suc i) (suc i) refl)
+spells_numbered : {l : Level} {i : ℕ} {xs : List ℕ} {t : Tree} → Spells l i xs t → Numbered i t
+spells_numbered (action d) = let b = letter_bound d in (omega arith, refl)
 spells_numbered (bracket d) = spells_numbered d
 spells_numbered (one_operand d) = spells_numbered d
-spells_numbered (more_operands {i} {t = t} {u = u} d e) = and_from (numbered i t) (numbered (i + size t) u) (spells_numbered d) (spells_numbered e)
+spells_numbered (more_operands d e) = (spells_numbered d, spells_numbered e)
 spells_numbered (one_product d) = spells_numbered d
-spells_numbered (more_products {i} {t = t} {u = u} d e) = and_from (numbered i t) (numbered (i + size t) u) (spells_numbered d) (spells_numbered e)
+spells_numbered (more_products d e) = (spells_numbered d, spells_numbered e)
 
 -- what is spelled is what was put together
 unique : (text : List ℕ) (s : Option Tree) (x u : Tree) (n : ℕ) → feeds start text ≡ Some (record { brackets = []; sum = s; place = past x; actions = n }) → Spells sum 0 text u → (plus s x ≡ u) × (size u ≡ n)

@@ -1,9 +1,7 @@
 -- Runs of steps: what is listed behind them leaves them as they are.
-use Rattle.std.proofs.Common.{◌≡◌, ℕ, zero, suc, ◌+◌, ◌-◌, ◌<◌, ◌≤◌, true, ◌&&◌, eqb, List, [], ◌∷◌, ◌++◌, length, get_or, sym, refl, ap, ◌∙◌, subst, add-zero, zero-add, arith, length-append}
-use Rattle.std.proofs.lemmas.Bool.{eq-eqb, eqb-true, and_parts}
+use Rattle.std.proofs.Common.{◌≡◌, ℕ, zero, suc, ◌+◌, ◌-◌, ◌<◌, ◌≤◌, List, ◌∷◌, ◌++◌, length, get_or, sym, refl, ap, ◌∙◌, add-zero, zero-add, arith, length-append}
 use Rattle.std.proofs.lemmas.List.FromFn.{length-map-range_with_len}
-use Rattle.terms.specs.Laws.Order.{never}
-use Rattle.terms.specs.Lists.{span, same_steps, Shows, Keeps, Listed}
+use Rattle.terms.specs.Lists.{span, Shows, Keeps, Listed}
 use Rattle.terms.specs.declared.run.Run.{Run}
 use Rattle.terms.specs.declared.listing.Listing.{Listing}
 
@@ -64,23 +62,3 @@ listed_shows l l' xs j =
     let a = j.added in
     let n : l'.listed - l.listed ≡ length xs = omega arith in
     record { inside = omega arith; steps = ap (span l'.steps l.listed) n ∙ j.steps }
-
--- what the test `same-steps` tells
-pub same_same : (xs ys : List (ℕ × ℕ)) → xs ≡ ys → same_steps xs ys ≡ true
-same_same xs ys e = subst (λ v. same_steps xs v ≡ true) e (itself xs)
-  where
-    itself : (zs : List (ℕ × ℕ)) → same_steps zs zs ≡ true
-    itself [] = refl
-    itself (z ∷ zs) = rw (eq-eqb z.0 z.0 refl, eq-eqb z.1 z.1 refl) (itself zs)
-
-pub same_is : (xs ys : List (ℕ × ℕ)) → same_steps xs ys ≡ true → xs ≡ ys
-same_is [] [] h = refl
-same_is [] (y ∷ ys) h = never (cc)
-same_is (x ∷ xs) [] h = never (cc)
-same_is (x ∷ xs) (y ∷ ys) h =
-    let p = and_parts (eqb x.0 y.0) (eqb x.1 y.1 && same_steps xs ys) h in
-    let q = and_parts (eqb x.1 y.1) (same_steps xs ys) p.1 in
-    let a = eqb-true x.0 y.0 p.0 in
-    let t = eqb-true x.1 y.1 q.0 in
-    let r = same_is xs ys q.1 in
-    λ i. (a i, t i) ∷ r i

@@ -4,10 +4,10 @@ use lib.ListN.{length-map}
 use Rattle.std.specs.List.{slice_get}
 use Rattle.lts.specs.Meaning.{In}
 use Rattle.lts.specs.Laws.Member.{in_left, in_right, in_either, nth_map, nth_right}
-use Rattle.terms.specs.Syntax.{Tree, leaf, choice, sequence, size, Rest, done, left}
+use Rattle.terms.specs.Syntax.{Tree, leaf, choice, sequence, size, Rest, done, left, Numbered}
 use Rattle.terms.specs.Rules.{Process, ◌⊙◌, Derives, act_done, choice_left, choice_right, sequence_done, sequence_left, plain, plain_rest}
 use Rattle.terms.specs.Graph.{followed, rests, contents, firsts}
-use Rattle.terms.specs.Laws.Order.{Numbered, never}
+use Rattle.terms.specs.Laws.Order.{never}
 use Rattle.terms.specs.Laws.Lawful.{length_rests}
 use Rattle.terms.proofs.Joined.{nth_first, nth_either, nth_from_map}
 

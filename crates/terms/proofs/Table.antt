@@ -1,9 +1,8 @@
 -- The trees of a table of nodes: each node's tree is made of those of its children.
-use Rattle.std.proofs.Common.{◌≡◌, ℕ, zero, suc, ◌+◌, ◌<◌, true, ltb, List, [], ◌∷◌, ◌++◌, length, get_or, take, sym, refl, ◌∙◌, subst, arith}
+use Rattle.std.proofs.Common.{◌≡◌, ℕ, zero, suc, ◌+◌, ◌<◌, List, [], ◌∷◌, ◌++◌, length, get_or, take, sym, refl, ◌∙◌, subst, arith}
 use Rattle.std.proofs.lemmas.List.{get_or_append_left, get_or_past, get_or_push, get_or-take, length_push}
-use Rattle.std.proofs.lemmas.Bool.{ltb-true, and_parts}
 use Rattle.terms.specs.Syntax.{Tree, leaf, choice, sequence}
-use Rattle.terms.specs.Nodes.{make, grow, lower}
+use Rattle.terms.specs.Nodes.{make, grow, Lower}
 use Rattle.terms.specs.Table.{at as tree_at}
 use Rattle.terms.specs.declared.nodes.Nodes.{Nodes}
 use Rattle.terms.specs.declared.node.Node.{Node}
@@ -37,18 +36,10 @@ Tells nodes k (Action a i) = tree_at nodes k ≡ leaf a i
 Tells nodes k (Choice x y) = (x < k) × (y < k) × (tree_at nodes k ≡ choice (tree_at nodes x) (tree_at nodes y))
 Tells nodes k (Sequence x y) = (x < k) × (y < k) × (tree_at nodes k ≡ sequence (tree_at nodes x) (tree_at nodes y))
 
-tells_made : (nodes : Nodes) (k : ℕ) (n : Node) → lower k n ≡ true → Made (grow [] (take nodes.used nodes.table)) n k → Tells nodes k n
+tells_made : (nodes : Nodes) (k : ℕ) (n : Node) → Lower k n → Made (grow [] (take nodes.used nodes.table)) n k → Tells nodes k n
 tells_made nodes k (Action a i) l m = m.1
-tells_made nodes k (Choice x y) l m =
-    let p = and_parts (ltb x k) (ltb y k) l in
-    let left = ltb-true x k p.0 in
-    let right = ltb-true y k p.1 in
-    (left, right, cc (m.1, m.2 x left, m.2 y right))
-tells_made nodes k (Sequence x y) l m =
-    let p = and_parts (ltb x k) (ltb y k) l in
-    let left = ltb-true x k p.0 in
-    let right = ltb-true y k p.1 in
-    (left, right, cc (m.1, m.2 x left, m.2 y right))
+tells_made nodes k (Choice x y) l m = (l.0, l.1, cc (m.1, m.2 x l.0, m.2 y l.1))
+tells_made nodes k (Sequence x y) l m = (l.0, l.1, cc (m.1, m.2 x l.0, m.2 y l.1))
 
 pub tells : (nodes : Nodes) (k : ℕ) (n : Node) → k < nodes.used → get_or nodes.table k (Action 0 0) ≡ n → Tells nodes k n
 tells nodes k n h e =

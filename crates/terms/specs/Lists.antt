@@ -1,5 +1,5 @@
 -- What the walks over the table of nodes list: the steps of a term's states, in runs.
-use Rattle.std.specs.Prelude.{◌≡◌, ℕ, ◌+◌, ◌<◌, ◌≤◌, Bool, true, false, ◌&&◌, List, [], ◌∷◌, map, length, get_or, Some, ◌==◌, slice_index_or}
+use Rattle.std.specs.Prelude.{◌≡◌, ℕ, ◌+◌, ◌<◌, ◌≤◌, List, [], ◌∷◌, map, length, get_or, Some, slice_index_or}
 use Rattle.std.specs.List.{slice_get, range_with_len}
 use Rattle.terms.specs.Syntax.{Tree, size, Rest, done, left}
 use Rattle.terms.specs.Graph.{firsts, rests, contents, leads}
@@ -17,13 +17,6 @@ run_of l s = slice_index_or l.runs s (record { from = 0; count = 0 })
 -- the steps of state s
 abbrev pub steps_of : Listing → ℕ → List (ℕ × ℕ)
 steps_of l s = span l.steps (run_of l s).from (run_of l s).count
-
--- the same steps in the same order
-abbrev pub same_steps : List (ℕ × ℕ) → List (ℕ × ℕ) → Bool
-same_steps [] [] = true
-same_steps [] (y ∷ ys) = false
-same_steps (x ∷ xs) [] = false
-same_steps (x ∷ xs) (y ∷ ys) = x.0 == y.0 && (x.1 == y.1 && same_steps xs ys)
 
 -- a run of what is listed holds these steps
 pub record Shows (l : Listing) (run : Run) (xs : List (ℕ × ℕ)) : Type 0 where

@@ -25,6 +25,7 @@ stacked frames (suc n) = slice_index_or frames n (record { sum = None; product =
 abbrev pub Below : ℕ → Option ℕ → Type 0
 Below used o = IfSome o (λ k. k < used)
 
+-- the open brackets name nodes of the table
 abbrev pub Framed : ℕ → List Frame → Type 0
 Framed used fs = AllByRecursion (λ f. Below used f.sum × Below used f.product) fs
 

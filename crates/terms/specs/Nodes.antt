@@ -1,6 +1,7 @@
 -- What a table of nodes stands for: each node's children stand before it.
-use Rattle.std.specs.Prelude.{ℕ, suc, ◌+◌, Bool, true, ◌&&◌, List, [], ◌∷◌, ◌++◌, take, ◌==◌, nat_le, nat_lt, slice_index_or}
-use Rattle.terms.specs.Syntax.{Tree, leaf, choice, sequence, size}
+use Rattle.std.specs.Prelude.{ℕ, ◌<◌, List, [], ◌∷◌, ◌++◌, take, slice_index_or}
+use Rattle.std.specs.Coded.{×_prop, Unit-prop, le_prop}
+use Rattle.terms.specs.Syntax.{Tree, leaf, choice, sequence}
 use Rattle.terms.specs.declared.node.Node.{Node}
 use Rattle.terms.specs.declared.node.Node.TheVariants.{Action, Choice, Sequence}
 
@@ -20,13 +21,12 @@ abbrev pub tree : List Node → ℕ → ℕ → Tree
 tree nodes used k = slice_index_or (grow [] (take used nodes)) k (leaf 0 0)
 
 -- the children of a node at place k stand before it
-abbrev pub lower : ℕ → Node → Bool
-lower k (Action a i) = true
-lower k (Choice x y) = nat_lt x k && nat_lt y k
-lower k (Sequence x y) = nat_lt x k && nat_lt y k
+abbrev pub Lower : ℕ → Node → Type 0
+Lower k (Action a i) = Unit {0}
+Lower k (Choice x y) = (x < k) × (y < k)
+Lower k (Sequence x y) = (x < k) × (y < k)
 
--- every action is at most 63, and the actions are numbered in text order from i + 1
-abbrev pub numbered : ℕ → Tree → Bool
-numbered i (leaf a j) = nat_le a 63 && j == suc i
-numbered i (choice x y) = numbered i x && numbered (i + size x) y
-numbered i (sequence x y) = numbered i x && numbered (i + size x) y
+pub Lower-prop : (k : ℕ) (node : Node) → IsProp (Lower k node)
+Lower-prop k (Action a i) = Unit-prop
+Lower-prop k (Choice x y) = ×_prop le_prop le_prop
+Lower-prop k (Sequence x y) = ×_prop le_prop le_prop

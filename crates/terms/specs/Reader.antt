@@ -1,7 +1,6 @@
 -- What a reader holds: the term put together so far.
-use Rattle.std.specs.Prelude.{◌≡◌, ℕ, ◌+◌, ◌≤◌, true, List, [], ◌∷◌, length, Some, None, Ok, Err, Option, Result}
-use Rattle.terms.specs.Syntax.{Tree, leaf, size}
-use Rattle.terms.specs.Nodes.{numbered}
+use Rattle.std.specs.Prelude.{◌≡◌, ℕ, ◌+◌, ◌≤◌, List, [], ◌∷◌, length, Some, None, Ok, Err, Option, Result}
+use Rattle.terms.specs.Syntax.{Tree, leaf, size, Numbered}
 use Rattle.terms.specs.Names.{known, stacked}
 use Rattle.terms.specs.Table.{at}
 use Rattle.terms.specs.Scan.{scan}
@@ -61,7 +60,7 @@ Took r offset c (Err f) r' = (cs : List ℕ) → scanned (partial r) offset (c �
 
 -- what was read whole has as many actions as were counted, numbered in their order
 abbrev pub Counted : Partial → Type 0
-Counted q = (s : Option Tree) (x : Tree) (n : ℕ) → q ≡ record { brackets = []; sum = s; place = past x; actions = n } → (size (plus s x) ≡ n) × (numbered 0 (plus s x) ≡ true)
+Counted q = (s : Option Tree) (x : Tree) (n : ℕ) → q ≡ record { brackets = []; sum = s; place = past x; actions = n } → (size (plus s x) ≡ n) × Numbered 0 (plus s x)
 
 -- the term that was read whole, or its end was refused
 abbrev pub Finished : Reader → ℕ → Result Term TermFault → Type 0

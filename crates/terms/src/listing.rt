@@ -5,6 +5,7 @@ ghost use Rattle.std.specs.Prelude.{◌≡◌, ◌≤◌, length};
 use crate::nodes::{Parts, Subterm};
 use crate::run::Run;
 
+// Arrays with the number of places used, since the core allocates nothing.
 #[derive(Clone, Copy)]
 pub struct Listing {
     // Actions with their places, of which so many are listed.
@@ -41,9 +42,8 @@ impl Listing {
         requires { self.old.listed < 63 }
         ensures { Pushed self.old action place self.new }
     {
-        let number = self.listed;
-        self.steps[number as usize] = (action, place);
-        self.listed = number + 1;
+        self.steps[self.listed as usize] = (action, place);
+        self.listed += 1;
     }
 
     // The run of one state more.
@@ -51,9 +51,8 @@ impl Listing {
         requires { self.old.states < 64 }
         ensures { Given self.old run self.new }
     {
-        let number = self.states;
-        self.runs[number as usize] = run;
-        self.states = number + 1;
+        self.runs[self.states as usize] = run;
+        self.states += 1;
     }
 
     // Lists the actions that can come first.

@@ -1,6 +1,7 @@
 // A term's table of nodes: each stands behind its children.
 ghost use Rattle.std.specs.Prelude.{◌≡◌, ℕ, ◌<◌, ◌≤◌, true, length, slice_index_or};
-ghost use Rattle.terms.specs.Nodes.{lower};
+ghost use Rattle.std.specs.Coded.{Π_prop, →_prop};
+ghost use Rattle.terms.specs.Nodes.{Lower, Lower-prop};
 ghost use Rattle.terms.specs.declared.node.Node.TheVariants.{Action};
 
 mod subterm;
@@ -8,19 +9,20 @@ mod subterm;
 use crate::node::Node;
 pub use subterm::{Parts, Subterm};
 
+// The core allocates nothing: so the table is an array, of which so many places are used.
 #[derive(Clone, Copy)]
 pub struct Nodes {
     table: [Node; 125],
     used: u8,
     ghost room: { length table ≡ 125 },
     ghost fits: { used ≤ 125 },
-    ghost falls: { (k : ℕ) → k < used → lower k (slice_index_or table k (Action 0 0)) ≡ true },
+    ghost falls: { (k : ℕ) → k < used → Lower k (slice_index_or table k (Action 0 0)) } by { Π_prop (λ k. →_prop (Lower-prop k (slice_index_or table k (Action 0 0)))) },
 }
 
 impl Nodes {
     ghost use Rattle.std.specs.Prelude.{◌≡◌, ◌+◌, ◌<◌, ◌≤◌, true, [], take};
     ghost use Rattle.terms.specs.Assembly.{plus, times};
-    ghost use Rattle.terms.specs.Nodes.{grow, make, lower};
+    ghost use Rattle.terms.specs.Nodes.{grow, make, Lower};
     ghost use Rattle.terms.specs.Names.{Below, known, one};
     ghost use Rattle.terms.specs.Table.{at, Joined};
 
@@ -36,7 +38,7 @@ impl Nodes {
     // One node more; its number.
     pub fn push(&mut self, node: Node) -> u8
         requires room { self.old.used < 125 }
-        requires behind { lower self.old.used node ≡ true }
+        requires behind { Lower self.old.used node }
         ensures { Joined self.old (make (grow [] (take self.old.used self.old.table)) node) 1 result self.new }
     {
         let number = self.used;
@@ -69,14 +71,5 @@ impl Nodes {
             None => product,
             Some(sum) => self.push(Node::Choice(sum, product)),
         }
-    }
-
-    // A node, with what stands below it.
-    pub fn subterm(&self, node: u8) -> Subterm<'_>
-        requires { node < self.now.used }
-        ensures nodes { result.nodes.now ≡ self.now }
-        ensures node { result.node ≡ node }
-    {
-        Subterm { nodes: self, node }
     }
 }

@@ -1,17 +1,16 @@
 -- The graph of a term keeps the bounds that every source promises.
-use Rattle.std.specs.Prelude.{◌≡◌, ℕ, zero, suc, ◌+◌, ◌≤◌, true, map, length, Some, None, Option, refl}
+use Rattle.std.specs.Prelude.{◌≡◌, ℕ, zero, suc, ◌+◌, ◌≤◌, map, length, Some, None, Option, refl}
 use Rattle.std.proofs.Common.{arith, ap, length-append}
 use Rattle.std.proofs.lemmas.List.{length-map}
 use Rattle.std.specs.List.{slice_get}
 use Rattle.std.proofs.lemmas.Option.{slice_get_past}
 use Rattle.lts.specs.Meaning.{Lawful}
 use Rattle.lts.specs.Laws.Member.{nth_in}
-use Rattle.terms.specs.Syntax.{Tree, leaf, choice, sequence, size, Rest, done, left}
+use Rattle.terms.specs.Syntax.{Tree, leaf, choice, sequence, size, Numbered, Rest, done, left}
 use Rattle.terms.specs.Graph.{followed, rests, contents, firsts, ended, leads, graph}
-use Rattle.terms.specs.Nodes.{numbered}
 use Rattle.terms.specs.Terms.{tree_of}
 use Rattle.terms.specs.declared.term.Term.{Term}
-use Rattle.terms.specs.Laws.Order.{Numbered, is_numbered, Within, within_more, within_length, within_each, firsts_within, rests_within}
+use Rattle.terms.specs.Laws.Order.{Within, within_more, within_length, within_each, firsts_within, rests_within}
 
 -- something remains after each action written, be it nothing
 pub length_rests : (t : Tree) → length (rests t) ≡ size t
@@ -40,9 +39,9 @@ leads_within t n (suc k) = held (slice_get (rests t) k) refl
     held (Some (left x)) e =
         within_more 0 0 (size t) (0 + size t) (firsts x) (omega arith) (omega arith) (rests_within 0 t x n (nth_in (left x) (rests t) k e))
 
-pub graph_lawful : (t : Tree) → size t ≤ 63 → numbered 0 t ≡ true → Lawful 64 (graph t)
+pub graph_lawful : (t : Tree) → size t ≤ 63 → Numbered 0 t → Lawful 64 (graph t)
 graph_lawful t small order =
-    let within = leads_within t (is_numbered 0 t order) in
+    let within = leads_within t order in
     record {
       some = omega arith;
       few = omega arith;

@@ -1,33 +1,14 @@
 -- In a term whose actions are numbered in text order, the targets of each state's steps rise.
-use Rattle.std.specs.Prelude.{◌≡◌, ℕ, suc, ◌+◌, ◌<◌, ◌≤◌, true, List, [], ◌∷◌, ◌++◌, map, length, ◌==◌, nat_le, refl}
+use Rattle.std.specs.Prelude.{◌≡◌, ℕ, ◌+◌, ◌<◌, ◌≤◌, List, [], ◌∷◌, ◌++◌, map, length, refl}
 use Rattle.std.proofs.Common.{add_assoc, arith, inl, inr, ⊎_elim, ap}
-use Rattle.std.proofs.lemmas.Bool.{leb-true, eqb-true, and_parts}
 use Rattle.lts.specs.Meaning.{In}
 use Rattle.lts.specs.Laws.Member.{in_either, from_map}
-use Rattle.terms.specs.Syntax.{Tree, leaf, choice, sequence, size, Rest, done, left}
+use Rattle.terms.specs.Syntax.{Tree, leaf, choice, sequence, size, Numbered, Rest, done, left}
 use Rattle.terms.specs.Graph.{followed, rests, firsts, Rises}
-use Rattle.terms.specs.Nodes.{numbered}
 
 -- two constructors are never equal: then any two numbers would be
 pub never : {X : Type 0} → ◌≡◌ {A = ℕ} 0 1 → X
 never e = let b : ⊥ = omega arith in absurd b
-
--- what the test `numbered` tells
-abbrev pub Numbered : ℕ → Tree → Type 0
-Numbered i (leaf a j) = (a ≤ 63) × (j ≡ suc i)
-Numbered i (choice x y) = Numbered i x × Numbered (i + size x) y
-Numbered i (sequence x y) = Numbered i x × Numbered (i + size x) y
-
-pub is_numbered : (i : ℕ) (t : Tree) → numbered i t ≡ true → Numbered i t
-is_numbered i (leaf a j) h =
-    let p = and_parts (nat_le a 63) (j == suc i) h in
-    (leb-true a 63 p.0, eqb-true j (suc i) p.1)
-is_numbered i (choice x y) h =
-    let p = and_parts (numbered i x) (numbered (i + size x) y) h in
-    (is_numbered i x p.0, is_numbered (i + size x) y p.1)
-is_numbered i (sequence x y) h =
-    let p = and_parts (numbered i x) (numbered (i + size x) y) h in
-    (is_numbered i x p.0, is_numbered (i + size x) y p.1)
 
 -- every action is at most 63, and the targets rise from above `low` to `high` at most
 abbrev pub Within : ℕ → ℕ → List (ℕ × ℕ) → Type 0

@@ -1,13 +1,14 @@
-// A part of a term, as a node of its table.
-ghost use Rattle.std.specs.Prelude.{◌<◌};
+// The parts of a term that stand in a table.
+ghost use Rattle.std.specs.Prelude.{◌≡◌, ◌<◌};
 
 use crate::node::Node;
 use crate::nodes::Nodes;
 
+// A node, with what stands below it.
 #[derive(Clone, Copy)]
 pub struct Subterm<'a> {
-    pub nodes: &'a Nodes,
-    pub node: u8,
+    nodes: &'a Nodes,
+    node: u8,
     ghost stands: { node < nodes.now.used },
 }
 
@@ -17,6 +18,16 @@ pub enum Parts<'a> {
     Action(u8, u8),
     Choice(Subterm<'a>, Subterm<'a>),
     Sequence(Subterm<'a>, Subterm<'a>),
+}
+
+impl Nodes {
+    pub fn subterm(&self, node: u8) -> Subterm<'_>
+        requires { node < self.now.used }
+        ensures nodes { result.nodes.now ≡ self.now }
+        ensures node { result.node ≡ node }
+    {
+        Subterm { nodes: self, node }
+    }
 }
 
 impl<'a> Subterm<'a> {

@@ -35,6 +35,7 @@ struct Frame {
 struct Reader {
     nodes: Nodes,
     actions: u8,
+    // The open brackets, so many of them, in an array, since the core allocates nothing.
     frames: [Frame; 32],
     depth: u8,
     sum: Option<u8>,
@@ -90,15 +91,14 @@ impl Reader {
         requires { self.old.position ≡ Position.Before product }
         ensures { Opened self.old product offset result self.new }
     {
-        let depth = self.depth;
-        if depth >= MOST_BRACKETS {
+        if self.depth >= MOST_BRACKETS {
             return Err(TermFault::Brackets(offset));
         }
-        self.frames[depth as usize] = Frame {
+        self.frames[self.depth as usize] = Frame {
             sum: self.sum,
             product,
         };
-        self.depth = depth + 1;
+        self.depth += 1;
         self.sum = None;
         self.position = Position::Before(None);
         Ok(())
@@ -121,9 +121,8 @@ impl Reader {
         ensures { Closed self.old product self.new }
     {
         let whole = self.nodes.add(self.sum, product);
-        let depth = self.depth - 1;
-        let frame = self.frames[depth as usize];
-        self.depth = depth;
+        self.depth -= 1;
+        let frame = self.frames[self.depth as usize];
         self.sum = frame.sum;
         let product = self.nodes.multiply(frame.product, whole);
         self.position = Position::Behind(product);
