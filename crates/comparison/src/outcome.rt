@@ -10,14 +10,15 @@ use crate::partition::Partition;
 use crate::reach::Reach;
 use crate::rounds::refined;
 use crate::script::Script;
-use crate::starts::Starts;
+use crate::starts::{Apart, watch};
 use lts::System;
 
 #[derive(Clone, Copy)]
 pub struct Outcome {
     pub classes: Partition,
     pub rounds: usize,
-    pub starts: Starts,
+    // The first round that told the starts apart.
+    pub starts: Option<Apart>,
 }
 
 // Round after round, up to the first that changes nothing.
@@ -34,9 +35,9 @@ fn refine_all<S: System>(
     ensures { Compares (S.meaning system.now) right (written script.new) result }
 {
     let mut classes = by_ends(system, script);
-    let mut starts = Starts::Alike;
+    let mut starts = None;
     for k in 0..most {
-        starts = starts.watch(&classes, k, right);
+        starts = watch(starts, &classes, k, right);
         let next = refined(system, k, &classes, here, script);
         if next.count == classes.count {
             return Outcome {

@@ -1,8 +1,8 @@
-use Rattle.std.proofs.Common.{◌+◌, sym, subst, arith}
+use Rattle.std.proofs.Common.{◌+◌, Option, sym, subst, arith}
 use Rattle.comparison.specs.Found.{Found}
 use Rattle.comparison.specs.Marks.{written}
 use Rattle.comparison.specs.Outcomes.{Compares}
-use Rattle.comparison.specs.declared.starts.Starts.{Starts}
+use Rattle.comparison.specs.declared.starts.Apart.{Apart}
 use Rattle.comparison.proofs.Ending.{standing_few, start_low, goes_on, ends_here}
 use Rattle.comparison.proofs.outcome.refine_all.Goals as goal
 
@@ -24,7 +24,7 @@ returns-then-next-classes g c =
     let law = g.S.System.lawful c.args.system.now in
     let inv = c.loop-k.invariant in
     let done = ends_here m law c.loop-k.k (written c.loop-k.script) c.loop-k.classes inv.0 (written c.refined-next.new.script) c.refined-next.result c.refined-next.ensures.standing c.args.right c.requires.inside c.refined-next.ensures.kept c.loop-k.starts inv.1 inv.2 inv.3 c.if-next-classes.true in
-    subst (λ (t : Starts). Compares m c.args.right (written c.refined-next.new.script) (record { classes = c.loop-k.classes; rounds = c.loop-k.k; starts = t })) (sym c.watch-starts.ensures) done
+    subst (λ (t : Option Apart). Compares m c.args.right (written c.refined-next.new.script) (record { classes = c.loop-k.classes; rounds = c.loop-k.k; starts = t })) (sym c.watch-starts.ensures) done
 
 pub unreachable-requires : goal.unreachable-requires
 unreachable-requires g c =
@@ -41,4 +41,4 @@ loop-k-preserved g c =
     let law = g.S.System.lawful c.args.system.now in
     let inv = c.loop-k.invariant in
     let on = goes_on m law c.loop-k.k (written c.loop-k.script) c.loop-k.classes inv.0 (written c.refined-next.new.script) c.refined-next.result c.refined-next.ensures.standing c.args.right c.requires.inside c.refined-next.ensures.kept c.loop-k.starts inv.1 inv.2 inv.3 c.if-next-classes.false in
-    (c.refined-next.ensures.standing, subst (λ (t : Starts). Found m c.args.right (written c.refined-next.new.script) (c.loop-k.k + 1) t) (sym c.watch-starts.ensures) on.0, on.1, on.2)
+    (c.refined-next.ensures.standing, subst (λ (t : Option Apart). Found m c.args.right (written c.refined-next.new.script) (c.loop-k.k + 1) t) (sym c.watch-starts.ensures) on.0, on.1, on.2)
