@@ -5,7 +5,7 @@ ghost use Rattle.comparison.specs.Outcomes.{Compares};
 
 use crate::ends::by_ends;
 use crate::flat::Flat;
-use crate::layout::{Layout, lay_out};
+use crate::layout::Layout;
 use crate::partition::Partition;
 use crate::reach::Reach;
 use crate::rounds::refined;
@@ -60,10 +60,11 @@ pub fn compared<S: System>(system: &S, right: usize, most: usize, script: &mut S
     ensures { Compares (S.meaning system.now) right (written script.new) result }
 {
     let mut here = Reach::new();
-    let mut layout = Layout::bare(system);
-    if lay_out(system, &mut here, &mut layout) {
-        let flat = Flat { of: &layout };
-        return refine_all(&flat, right, most, &mut here, script);
+    match Layout::of(system, &mut here) {
+        Some(layout) => {
+            let flat = Flat { of: &layout };
+            refine_all(&flat, right, most, &mut here, script)
+        }
+        None => refine_all(system, right, most, &mut here, script),
     }
-    refine_all(system, right, most, &mut here, script)
 }
