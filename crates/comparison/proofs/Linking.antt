@@ -1,9 +1,9 @@
 -- Links between the splits of a round.
-use Rattle.std.proofs.Common.{◌≡◌, ℕ, zero, suc, ◌+◌, ◌-◌, ◌<◌, ◌≤◌, Bool, List, Some, None, Option, length, get_or, set, replicate, sym, subst, arith, length-set}
+use Rattle.std.proofs.Common.{◌≡◌, ℕ, zero, suc, ◌+◌, ◌-◌, ◌<◌, ◌≤◌, Bool, List, Some, None, Option, get_or, set, replicate, sym, subst, arith, length-set}
 use lib.ListN.{length-replicate}
 use Rattle.std.proofs.lemmas.List.{get_or-replicate, get_or-set_same, get_or-set_other}
-use Rattle.comparison.specs.Landing.{sent}
-use Rattle.comparison.specs.Links.{from_at, Next, Chained, begun, Linked}
+use Rattle.comparison.specs.Landing.{unsplit, sent}
+use Rattle.comparison.specs.Links.{from_at, Next, Chained, begun, unlinked, pushed, Born, Linked}
 use Rattle.comparison.specs.declared.links.Chain.{Chain}
 use Rattle.comparison.specs.declared.links.Links.{Links}
 use Rattle.comparison.specs.declared.split.Split.{Split}
@@ -29,31 +29,34 @@ begins splits made c None n is h = subst (Next splits made c 0) (sym is) h
 begins splits made c (Some x) n is h = subst (Next splits made c 0) (sym is) h.0
 
 -- the first split of the class that split t made comes behind it
-pub behind : (first : ℕ) (splits : List Split) (made : ℕ) (x : Links) → Linked first splits made x → (t : ℕ) → t < made → (n : Option ℕ) → Next splits made (first + t) 0 n → Next splits made (first + t) (t + 1) n
-behind first splits made x h t l None quiet = λ u low high. quiet u (omega arith) high
-behind first splits made x h t l (Some j) jump =
-    let b = h.born j jump.inside in
+pub behind : (first : ℕ) (x : Links) → Born first x → (t : ℕ) → t < x.made → (n : Option ℕ) → Next x.splits x.made (first + t) 0 n → Next x.splits x.made (first + t) (t + 1) n
+behind first x born t l None quiet = λ u low high. quiet u (omega arith) high
+behind first x born t l (Some j) jump =
+    let b = born j jump.inside in
     let of = jump.of in
     record { on = omega arith; inside = jump.inside; of = of; quiet = λ u low high. jump.quiet u (omega arith) high }
 
 -- One split more.
 
-module _ (first : ℕ) (splits : List Split) (made : ℕ) (x : Links) (h : Linked first splits made x) (size : length splits ≡ 256) (room : made < 256) (c : ℕ) (low : c < 256) (born : c < first + made) (z : Split) (of : z.from ≡ c) where
+module _ (x : Links) (h : Linked x) (room : x.made < 256) (z : Split) (low : z.from < 256) where
   -- its class had none before
-  pub add_first : get_or x.chains c None ≡ None → Linked first (set splits made z) (made + 1) (record { chains = set x.chains c (Some (record { first = made; last = made })); nexts = set x.nexts made None })
+  pub add_first : get_or x.chains z.from None ≡ None → Linked (pushed x z (set x.chains z.from (Some (record { first = x.made; last = x.made }))) (set x.nexts x.made None))
   add_first none = grind (arith, length-set, get_or-set_same, get_or-set_other)
 
   -- its class had some: it is linked behind the last of them
-  pub add_later : (y : Chain) → get_or x.chains c None ≡ Some y → Linked first (set splits made z) (made + 1) (record { chains = set x.chains c (Some (record { first = y.first; last = made })); nexts = set (set x.nexts y.last (Some made)) made None })
+  pub add_later : (y : Chain) → get_or x.chains z.from None ≡ Some y → Linked (pushed x z (set x.chains z.from (Some (record { first = y.first; last = x.made }))) (set (set x.nexts y.last (Some x.made)) x.made None))
   add_later y some = grind (arith, length-set, get_or-set_same, get_or-set_other)
 
+  pub born_more : (first : ℕ) (chains : List (Option Chain)) (nexts : List (Option ℕ)) → Born first x → z.from < first + x.made → Born first (pushed x z chains nexts)
+  born_more first chains nexts born new = let n = h.splits_size in grind (arith, get_or-set_same, get_or-set_other)
+
 -- before the first split
-pub none_linked : (first : ℕ) (splits : List Split) → Linked first splits 0 (record { chains = replicate 256 None; nexts = replicate 256 None })
-none_linked first splits =
+pub none_linked : Linked unlinked
+none_linked =
     record {
+      splits_size = length-replicate 256 unsplit;
       chains_size = length-replicate {A = Option Chain} 256 None;
       nexts_size = length-replicate {A = Option ℕ} 256 None;
-      born = λ t l. let b : ⊥ = omega arith in absurd b;
-      chains = λ c l. subst (Chained splits 0 c) (sym (get_or-replicate {A = Option Chain} 256 c None None l)) (λ t a b e. let z : ⊥ = omega arith in absurd z);
+      chains = λ c l. subst (Chained (replicate 256 unsplit) 0 c) (sym (get_or-replicate {A = Option Chain} 256 c None None l)) (λ t a b e. let z : ⊥ = omega arith in absurd z);
       nexts = λ t l. let b : ⊥ = omega arith in absurd b;
     }

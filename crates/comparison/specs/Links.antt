@@ -1,5 +1,5 @@
 -- The splits of a round, linked by the class that they split.
-use Rattle.std.specs.Prelude.{◌≡◌, ℕ, ◌+◌, ◌<◌, ◌≤◌, List, length, Some, None, Option, ◌≢◌, slice_index_or}
+use Rattle.std.specs.Prelude.{◌≡◌, ℕ, ◌+◌, ◌<◌, ◌≤◌, List, length, replicate, Some, None, Option, ◌≢◌, slice_index_or, slice_set}
 use Rattle.comparison.specs.Landing.{unsplit}
 use Rattle.comparison.specs.declared.links.Chain.{Chain}
 use Rattle.comparison.specs.declared.links.Links.{Links}
@@ -37,11 +37,22 @@ abbrev pub begun : Option Chain → Option ℕ
 begun None = None
 begun (Some x) = Some x.first
 
--- each class has its chain, and each split the next one of its class; split t splits a class that was there before it,
--- and makes class first + t
-pub record Linked (first : ℕ) (splits : List Split) (made : ℕ) (x : Links) : Type 0 where
+-- no split yet
+abbrev pub unlinked : Links
+unlinked = record { splits = replicate 256 unsplit; made = 0; chains = replicate 256 None; nexts = replicate 256 None }
+
+-- one split more
+abbrev pub pushed : Links → Split → List (Option Chain) → List (Option ℕ) → Links
+pushed x y chains nexts = record { splits = slice_set x.splits x.made y; made = x.made + 1; chains = chains; nexts = nexts }
+
+-- split t splits a class that was there before it, and makes class first + t
+abbrev pub Born : ℕ → Links → Type 0
+Born first x = (t : ℕ) → t < x.made → from_at x.splits t < first + t
+
+-- each class has its chain, and each split the next one of its class
+pub record Linked (x : Links) : Type 0 where
+  pub splits_size : length x.splits ≡ 256
   pub chains_size : length x.chains ≡ 256
   pub nexts_size : length x.nexts ≡ 256
-  pub born : (t : ℕ) → t < made → from_at splits t < first + t
-  pub chains : (c : ℕ) → c < 256 → Chained splits made c (slice_index_or x.chains c None)
-  pub nexts : (t : ℕ) → t < made → Next splits made (from_at splits t) (t + 1) (slice_index_or x.nexts t None)
+  pub chains : (c : ℕ) → c < 256 → Chained x.splits x.made c (slice_index_or x.chains c None)
+  pub nexts : (t : ℕ) → t < x.made → Next x.splits x.made (from_at x.splits t) (t + 1) (slice_index_or x.nexts t None)

@@ -4,11 +4,10 @@ ghost use Rattle.comparison.specs.Marks.{written, Kept};
 ghost use Rattle.comparison.specs.Standing.{Standing};
 
 use crate::draft::Draft;
-use crate::links::Links;
 use crate::partition::Partition;
 use crate::reach::Reach;
+use crate::round::Round;
 use crate::script::Script;
-use crate::settling::settle;
 use lts::System;
 
 // The classes of round k + 1, from those of round k.
@@ -23,21 +22,14 @@ pub fn refined<S: System>(
     ensures standing { Standing (S.meaning system.now) (k + 1) (written script.new) result }
     ensures kept { Kept (written script.old) (written script.new) }
 {
+    let round = Round {
+        system,
+        k,
+        before: old,
+    };
     let mut draft = Draft::new(old);
-    let mut weights = [0; 256];
-    let mut links = Links::new();
     for s in 0..system.states() {
-        settle(
-            system,
-            k,
-            s,
-            old,
-            &mut draft,
-            here,
-            &mut weights,
-            &mut links,
-            script,
-        );
+        round.settle(s, &mut draft, here, script);
     }
     draft.next
 }

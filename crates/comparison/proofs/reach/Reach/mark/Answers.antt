@@ -11,18 +11,18 @@ loop-k-init g c = (λ a b x y. c.clear.ensures _, total_none c.clear.new.self c.
 
 pub put-requires : goal.put-requires
 put-requires g c =
-    let m = g.S.System.meaning c.args.system.now in
-    let law = g.S.System.lawful c.args.system.now in
-    record { action = listed_action m law c.args.t c.loop-k.k c.in-Some.action c.in-Some.target c.in-Some.ensures; class = c.requires c.in-Some.target (listed_target m law c.args.t c.loop-k.k c.in-Some.action c.in-Some.target c.in-Some.ensures) }
+    let m = g.S.System.meaning c.args.round.now.system.now in
+    let law = g.S.System.lawful c.args.round.now.system.now in
+    record { action = listed_action m law c.args.t c.loop-k.k c.in-Some.action c.in-Some.target c.in-Some.ensures; class = c.args.round.now.low c.in-Some.target (listed_target m law c.args.t c.loop-k.k c.in-Some.action c.in-Some.target c.in-Some.ensures) }
 
 pub overflow_add-pairs : goal.overflow_add-pairs
 overflow_add-pairs g c = let h = total_few c.loop-k.self in let e = c.loop-k.invariant.1 in search rules
 
 pub loop-k-preserved : goal.loop-k-preserved
 loop-k-preserved g c =
-    let n = numbers c.args.class.now in
-    let m = g.S.System.meaning c.args.system.now in
-    let law = g.S.System.lawful c.args.system.now in
+    let n = numbers c.args.round.now.before.now.class in
+    let m = g.S.System.meaning c.args.round.now.system.now in
+    let law = g.S.System.lawful c.args.round.now.system.now in
     let xs = m.steps c.args.t in
     let k = c.loop-k.k in
     elim c.match-step.branch [
@@ -30,7 +30,7 @@ loop-k-preserved g c =
           let a = w.in-Some.action in
           let u = w.in-Some.target in
           let at = w.in-Some.ensures in
-          let low = c.requires u (listed_target m law c.args.t k a u at) in
+          let low = c.args.round.now.low u (listed_target m law c.args.t k a u at) in
           let put = w.if-put.ensures in
           let more = reached_more n xs k a u _ _ _ at low put c.loop-k.invariant.0 in
           let e = total_new _ _ a (n u) (listed_action m law c.args.t k a u at) low put in
@@ -39,7 +39,7 @@ loop-k-preserved g c =
           let a = w.in-Some.action in
           let u = w.in-Some.target in
           let at = w.in-Some.ensures in
-          let low = c.requires u (listed_target m law c.args.t k a u at) in
+          let low = c.args.round.now.low u (listed_target m law c.args.t k a u at) in
           let put = w.if-put.ensures in
           let more = reached_more n xs k a u _ _ _ at low put c.loop-k.invariant.0 in
           let e = total_old _ _ a (n u) put in
@@ -52,8 +52,8 @@ loop-k-preserved g c =
 
 pub returns : goal.returns
 returns g c =
-    let n = numbers c.args.class.now in
-    let xs = (g.S.System.meaning c.args.system.now).steps c.args.t in
+    let n = numbers c.args.round.now.before.now.class in
+    let xs = (g.S.System.meaning c.args.round.now.system.now).steps c.args.t in
     let all : length xs ≤ c.loop-k.k = omega (arith, c.step_count-k-end.ensures) in
     let reached = subst (λ (ys : List (ℕ × ℕ)). Reached n ys c.loop-k.self) (take_whole xs c.loop-k.k all) c.loop-k.invariant.0 in
     record { reached = reached; weighed = c.loop-k.invariant.1 ∙ total_weight n xs c.loop-k.self reached }
