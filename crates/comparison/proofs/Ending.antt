@@ -27,6 +27,13 @@ module _ {most : ℕ} (m : Meaning) (law : Lawful most m) (k : ℕ) (lines : Lis
       let f = round_few m (all_of m) k p.count (numbers p.class) (closed_all m law) h.based.numbering in
       omega (arith, all_counted m)
 
+  pub classes_low : most ≤ 256 → (u : ℕ) → u < m.count → numbers p.class u < 256
+  classes_low most_few u l =
+      let b = h.based.numbering.below u (lt-ltb u m.count l) in
+      let c = standing_few in
+      let s = law.few in
+      omega arith
+
   pub start_low : numbers p.class 0 < p.count
   start_low = h.based.numbering.below 0 (lt-ltb 0 m.count law.some)
 

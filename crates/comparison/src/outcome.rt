@@ -8,7 +8,7 @@ use crate::flat::Flat;
 use crate::layout::Layout;
 use crate::partition::Partition;
 use crate::reach::Reach;
-use crate::rounds::refined;
+use crate::round::Round;
 use crate::script::Script;
 use crate::starts::{Apart, watch};
 use lts::System;
@@ -38,7 +38,12 @@ fn refine_all<S: System>(
     let mut starts = None;
     for k in 0..most {
         starts = watch(starts, &classes, k, right);
-        let next = refined(system, k, &classes, here, script);
+        let round = Round {
+            system,
+            k,
+            before: &classes,
+        };
+        let next = round.refined(here, script);
         if next.count == classes.count {
             return Outcome {
                 classes,
