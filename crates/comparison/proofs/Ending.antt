@@ -34,9 +34,6 @@ module _ {most : ℕ} (m : Meaning) (law : Lawful most m) (k : ℕ) (lines : Lis
       let s = law.few in
       omega arith
 
-  pub start_low : numbers p.class 0 < p.count
-  start_low = h.based.numbering.below 0 (lt-ltb 0 m.count law.some)
-
   module _ (lines' : List Line) (p' : Partition) (h' : Standing m (k + 1) lines' p') where
     next : Numbering m (all_of m) (suc k) p'.count (numbers p'.class)
     next = subst (λ (j : ℕ). Numbering m (all_of m) j p'.count (numbers p'.class)) (add-one k) h'.based.numbering

@@ -32,9 +32,6 @@ run_more steps i x a l room =
 
 -- Lists with the same steps.
 
-pub same_none : SameListed [] []
-same_none = record { to = λ a t h. h; back = λ a t h. h }
-
 -- one step more of both
 pub same_more : (xs ys : List (ℕ × ℕ)) (x : ℕ × ℕ) → SameListed xs ys → SameListed (xs ++ x ∷ []) (ys ++ x ∷ [])
 same_more xs ys x h = record { to = λ a t i. on xs ys (a, t) (h.to a t) i; back = λ a t i. on ys xs (a, t) (h.back a t) i }

@@ -132,9 +132,6 @@ module _ {most : ℕ} {m : Meaning} (law : Lawful most m) (few : most ≤ 256) {
       let v = w.leaders_size in
       record { state = omega arith; number = omega arith; room = a; made = b; from = omega arith; low = c; marks = omega arith; leaders = omega arith }
 
-  pub from_low : y.from < 256
-  from_low = part_room.3
-
   pub lines_room : length lines + 4 ≤ 1024
   lines_room = part_room.2
 

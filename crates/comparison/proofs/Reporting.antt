@@ -1,6 +1,6 @@
 -- What the rounds found, as it is reported.
 use Rattle.std.proofs.Common.{◌≡◌, ℕ, ◌+◌, ◌-◌, ◌*◌, ◌<◌, ◌≤◌, Bool, true, List, Some, None, Option, ◌++◌, length, get_or, take, drop, sym, refl, ap, ◌∙◌, subst, inl, ⊎_elim, add-zero, arith}
-use Rattle.std.proofs.lemmas.List.{length-take-le, get_or_append_left, get_or-take, take_at, take-take, drop_at}
+use Rattle.std.proofs.lemmas.List.{length-take-le, get_or_append_left, get_or-take, take_at, drop_at}
 use Rattle.std.proofs.lemmas.Bool.{ltb-true, lt-ltb}
 use Rattle.lts.specs.Meaning.{Meaning, Lawful}
 use Rattle.lts.specs.Joined.{joined}
@@ -169,9 +169,3 @@ module _ {a b : ℕ} (p q : Meaning) (law_p : Lawful a p) (law_q : Lawful b q) (
           subst (λ (x : Verdict). Reported p q lines classes (record { verdict = x; classes = o.classes.count; rounds = o.rounds }) lines'' classes'') (sym is-v)
           (subst (λ (x : List Line). Reported p q lines classes (record { verdict = told o.starts; classes = o.classes.count; rounds = o.rounds }) x classes'') (sym is-lines)
           (subst (Reported p q lines classes (record { verdict = told o.starts; classes = o.classes.count; rounds = o.rounds }) (left_in o.starts ls lines)) (sym whole) reported))
-
--- the lines that were written are in front
-pub left_apart : (t : Option Apart) (x : Apart) (used : ℕ) (all lines to : List Line) → used ≤ length all → t ≡ Some x → FitsLines t (take used all) lines → to ≡ take (x.line + 1) all ++ drop (x.line + 1) lines → to ≡ left_in t (take used all) lines
-left_apart t x used all lines to room e =
-    subst (λ (s : Option Apart). FitsLines s (take used all) lines → to ≡ take (x.line + 1) all ++ drop (x.line + 1) lines → to ≡ left_in s (take used all) lines) (sym e)
-    (λ f g. let n = length-take-le used all room in let l = f.0 in g ∙ ap (λ (v : List Line). v ++ drop (x.line + 1) lines) (sym (take-take (x.line + 1) used all (omega arith))))

@@ -1,15 +1,7 @@
 use Rattle.std.proofs.Common.{◌+◌, ◌-◌, ◌*◌, ◌≤◌, length, arith, rules}
 use Rattle.comparison.specs.Marks.{written}
-use Rattle.comparison.proofs.Reporting.{start_inside, counts_low, fits_lines, reported_as}
+use Rattle.comparison.proofs.Reporting.{counts_low, fits_lines, reported_as}
 use Rattle.comparison.proofs.comparing.compare_pair.Goals as goal
-
-pub compared-found-requires : goal.compared-found-requires
-compared-found-requires g c =
-    let p = g.L.Source.meaning c.args.system.now.left.now in
-    let q = g.R.Source.meaning c.args.system.now.right.now in
-    let law_p = g.L.Source.lawful c.args.system.now.left.now in
-    let law_q = g.R.Source.lawful c.args.system.now.right.now in
-    record { few = (let l = (g.L.Source.lawful c.args.system.now.left.now).few in let r = (g.R.Source.lawful c.args.system.now.right.now).few in let x = c.MOST.result.tied in let y = c.MOST-2.result.tied in omega arith); inside = start_inside p q law_p law_q g.L.Source.bounded g.R.Source.bounded c.states-start.result c.states-start.ensures; empty = c.new-script.ensures }
 
 pub judged-verdict-requires : goal.judged-verdict-requires
 judged-verdict-requires g c =

@@ -21,12 +21,6 @@ invariant_of-flat g c =
       aims = laid_aims m law p h;
     }
 
-pub refine_all-requires : goal.refine_all-requires
-refine_all-requires g c =
-    let h = c.in-Some.ensures in
-    let n = h.states in
-    record { few = omega (arith, c.requires.few); inside = omega (arith, c.requires.inside); empty = c.requires.empty }
-
 pub returns-in-Some : goal.returns-in-Some
 returns-in-Some g c =
     let m = g.S.System.meaning c.args.system.now in

@@ -3,20 +3,22 @@ use Rattle.comparison.specs.Found.{Found}
 use Rattle.comparison.specs.Marks.{written}
 use Rattle.comparison.specs.Outcomes.{Compares}
 use Rattle.comparison.specs.declared.starts.Apart.{Apart}
-use Rattle.comparison.proofs.Ending.{standing_few, start_low, classes_low, goes_on, ends_here}
+use Rattle.comparison.proofs.Ending.{standing_few, classes_low, goes_on, ends_here}
 use Rattle.comparison.proofs.outcome.refine_all.Goals as goal
 
-pub watch-starts-requires : goal.watch-starts-requires
-watch-starts-requires g c =
+pub watch-starts-requires-clause-class : goal.watch-starts-requires-clause-class
+watch-starts-requires-clause-class g c =
+    let law = g.S.System.lawful c.args.system.now in
+    classes_low (g.S.System.meaning c.args.system.now) law c.loop-k.k (written c.loop-k.script) c.loop-k.classes c.loop-k.invariant.standing (omega arith) 0 law.some
+
+pub watch-starts-requires-clause-round : goal.watch-starts-requires-clause-round
+watch-starts-requires-clause-round g c =
     let m = g.S.System.meaning c.args.system.now in
     let law = g.S.System.lawful c.args.system.now in
-    let h = c.loop-k.invariant.standing in
-    let few = standing_few m law c.loop-k.k (written c.loop-k.script) c.loop-k.classes h in
-    let start = start_low m law c.loop-k.k (written c.loop-k.script) c.loop-k.classes h in
+    let few = standing_few m law c.loop-k.k (written c.loop-k.script) c.loop-k.classes c.loop-k.invariant.standing in
     let states = law.few in
     let low = c.loop-k.invariant.low in
-    let inside = c.requires.inside in
-    record { sized = h.based.class_size; marks = h.based.marks_size; class = omega arith; round = omega arith; right = omega arith }
+    omega arith
 
 pub returns-then-next-classes : goal.returns-then-next-classes
 returns-then-next-classes g c =

@@ -1,15 +1,9 @@
-use Rattle.std.proofs.Common.{ℕ, ◌+◌, ◌<◌, None, get_or, refl, subst, arith}
+use Rattle.std.proofs.Common.{ℕ, ◌+◌, ◌<◌, None, get_or, subst, arith}
 use Rattle.comparison.specs.Reach.{holds}
 use Rattle.comparison.specs.Links.{Jump, Next}
 use Rattle.comparison.proofs.Linking.{arrive, begins, behind}
 use Rattle.comparison.proofs.Sending.{sent_goes, sent_stays}
 use Rattle.comparison.proofs.links.Links.sent.Goals as goal
-
-pub loop-next-init : goal.loop-next-init
-loop-next-init c =
-    let d = c.args.self.now in
-    let from = c.args.from in
-    (c.requires.low, (0, omega arith, refl, begins d.splits d.made from (get_or d.chains from None) c.first-next.result c.first-next.ensures (c.requires.linked.chains from c.requires.low)))
 
 pub loop-next-preserved : goal.loop-next-preserved
 loop-next-preserved c =

@@ -50,10 +50,10 @@ loop-k-preserved g c =
           absurd b
     ]
 
-pub returns : goal.returns
-returns g c =
+pub returns-clause-weighed : goal.returns-clause-weighed
+returns-clause-weighed g c =
     let n = numbers c.args.round.now.before.now.class in
     let xs = (g.S.System.meaning c.args.round.now.system.now).steps c.args.t in
     let all : length xs ≤ c.loop-k.k = omega (arith, c.step_count-k-end.ensures) in
     let reached = subst (λ (ys : List (ℕ × ℕ)). Reached n ys c.loop-k.self) (take_whole xs c.loop-k.k all) c.loop-k.invariant.reached in
-    record { reached = reached; weighed = c.loop-k.invariant.counted ∙ total_weight n xs c.loop-k.self reached }
+    c.loop-k.invariant.counted ∙ total_weight n xs c.loop-k.self reached

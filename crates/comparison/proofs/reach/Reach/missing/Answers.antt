@@ -1,7 +1,7 @@
-use Rattle.std.proofs.Common.{◌≡◌, ℕ, ◌≤◌, true, List, length, sym, refl, subst, arith}
+use Rattle.std.proofs.Common.{sym, refl, arith}
 use Rattle.lts.specs.Laws.Member.{nth_in, nth_missing, listed_action, listed_target}
-use Rattle.comparison.specs.Reach.{numbers, holds, hits}
-use Rattle.comparison.proofs.Pairs.{in_hits, lacks_more, take_whole}
+use Rattle.comparison.specs.Reach.{numbers, holds}
+use Rattle.comparison.proofs.Pairs.{in_hits, lacks_more}
 use Rattle.comparison.proofs.reach.Reach.missing.Goals as goal
 use Rattle.comparison.proofs.reach.Reach.missing.Goals.{in-Some+else-not-has, in_default}
 
@@ -26,10 +26,3 @@ loop-k-preserved g c =
     let n = numbers c.args.round.now.before.now.class in
     let xs = (g.S.System.meaning c.args.round.now.system.now).steps c.args.t in
     elim c.match-step.branch [ in-Some+else-not-has w ↦ lacks_more n (holds c.args.self.now) xs c.loop-k.k w.in-Some.action w.in-Some.target w.in-Some.ensures (sym w.if-not-has.ensures) c.loop-k.invariant | in_default w ↦ let past = nth_missing xs c.loop-k.k w.in_default.ensures in let b : ⊥ = omega (arith, c.step_count-k-end.ensures) in absurd b ]
-
-pub returns : goal.returns
-returns g c =
-    let n = numbers c.args.round.now.before.now.class in
-    let xs = (g.S.System.meaning c.args.round.now.system.now).steps c.args.t in
-    let all : length xs ≤ c.loop-k.k = omega (arith, c.step_count-k-end.ensures) in
-    subst (λ (ys : List (ℕ × ℕ)). (a b : ℕ) → hits n a b ys ≡ true → holds c.args.self.now a b ≡ true) (take_whole xs c.loop-k.k all) c.loop-k.invariant

@@ -13,10 +13,10 @@ loop-s-init g c =
     let lines = written c.args.script.now in
     record { working = subst (Working m k 0 old lines) (sym c.new-draft.ensures) (opening m k old lines c.requires); kept = kept_refl lines }
 
-pub returns : goal.returns
-returns g c =
+pub returns-clause-standing : goal.returns-clause-standing
+returns-clause-standing g c =
     let m = g.S.System.meaning c.args.self.now.system.now in
     let law = g.S.System.lawful c.args.self.now.system.now in
     let all : m.count ≤ c.loop-s.s = omega (arith, c.states-s-end.ensures) in
     let done = closing m law c.args.self.now.k c.loop-s.s c.args.self.now.before.now (written c.loop-s.script) c.loop-s.draft c.loop-s.invariant.working all in
-    record { standing = rw add-one done; kept = c.loop-s.invariant.kept }
+    rw add-one done
