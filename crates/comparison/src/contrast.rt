@@ -24,9 +24,7 @@ impl<'a, S: System> Round<'a, S> {
         ensures { Contrast (S.meaning self.now.system.now) (numbers self.now.before.now.class) s leader from result }
     {
         if s.weight == leader.weight {
-            let Some(_) = here.missing(self, leader.state as usize) else {
-                return None;
-            };
+            let _ = here.missing(self, leader.state as usize)?;
         }
         let _ = here.mark(self, leader.state as usize);
         if let Some((action, into)) = here.missing(self, s.state as usize) {

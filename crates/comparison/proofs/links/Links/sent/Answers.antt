@@ -11,11 +11,11 @@ loop-next-preserved c =
     let d = c.args.self.now in
     let inv = c.loop-next.invariant in
     let j = c.in-Some.j in
-    let jump : Jump d.splits d.made c.loop-next.class inv.1.0 j = subst (Next d.splits d.made c.loop-next.class inv.1.0) c.in-Some.is inv.1.3 in
+    let jump : Jump d.splits d.made c.loop-next.class inv.at j = subst (Next d.splits d.made c.loop-next.class inv.at) c.in-Some.is inv.next in
     let l = jump.inside in
-    let at = arrive has d.splits c.args.first c.args.from c.loop-next.class inv.1.0 j inv.1.2 jump.on jump.quiet in
+    let at = arrive has d.splits c.args.first c.args.from c.loop-next.class inv.at j inv.is jump.on jump.quiet in
     let stays = sent_stays has d.splits c.args.first c.args.from j c.loop-next.class c.has.result at c.has.ensures c.if-has-split.false in
-    (inv.0, (j + 1, omega arith, stays, subst (λ (v : ℕ). Next d.splits d.made v (j + 1) (get_or d.nexts j None)) jump.of (c.requires.linked.nexts j l)))
+    record { low = inv.low; at = j + 1; inside = omega arith; is = stays; next = subst (λ (v : ℕ). Next d.splits d.made v (j + 1) (get_or d.nexts j None)) jump.of (c.requires.linked.nexts j l) }
 
 pub loop-next-preserved-then-has-split : goal.loop-next-preserved-then-has-split
 loop-next-preserved-then-has-split c =
@@ -24,20 +24,20 @@ loop-next-preserved-then-has-split c =
     let first = c.args.first in
     let inv = c.loop-next.invariant in
     let j = c.in-Some.j in
-    let jump : Jump d.splits d.made c.loop-next.class inv.1.0 j = subst (Next d.splits d.made c.loop-next.class inv.1.0) c.in-Some.is inv.1.3 in
+    let jump : Jump d.splits d.made c.loop-next.class inv.at j = subst (Next d.splits d.made c.loop-next.class inv.at) c.in-Some.is inv.next in
     let l = jump.inside in
     let room = c.requires.room in
     let low : first + j < 256 = omega arith in
-    let at = arrive has d.splits first c.args.from c.loop-next.class inv.1.0 j inv.1.2 jump.on jump.quiet in
+    let at = arrive has d.splits first c.args.from c.loop-next.class inv.at j inv.is jump.on jump.quiet in
     let goes = sent_goes has d.splits first c.args.from j c.loop-next.class c.has.result at jump.of c.has.ensures c.if-has-split.true in
     let n = c.first-next-then-has-split.result in
     let next = begins d.splits d.made (first + j) (get_or d.chains (first + j) None) n c.first-next-then-has-split.ensures (c.requires.linked.chains (first + j) low) in
-    (low, (j + 1, omega arith, goes, behind first d c.requires.born j l n next))
+    record { low = low; at = j + 1; inside = omega arith; is = goes; next = behind first d c.requires.born j l n next }
 
 pub returns : goal.returns
 returns c =
     let has = holds c.args.here.now in
     let d = c.args.self.now in
     let inv = c.loop-next.invariant in
-    let none : Next d.splits d.made c.loop-next.class inv.1.0 None = subst (Next d.splits d.made c.loop-next.class inv.1.0) c.in_default.is inv.1.3 in
-    arrive has d.splits c.args.first c.args.from c.loop-next.class inv.1.0 d.made inv.1.2 inv.1.1 none
+    let none : Next d.splits d.made c.loop-next.class inv.at None = subst (Next d.splits d.made c.loop-next.class inv.at) c.in_default.is inv.next in
+    arrive has d.splits c.args.first c.args.from c.loop-next.class inv.at d.made inv.is inv.inside none
