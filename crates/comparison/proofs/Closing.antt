@@ -1,37 +1,29 @@
 -- How a round begins and ends.
-use Rattle.std.proofs.Common.{◌≡◌, ℕ, suc, ◌+◌, ◌<◌, ◌≤◌, ◌≢◌, ◌↔◌, List, length, get_or, set, replicate, Some, None, Option, sym, refl, ap, ◌∙◌, subst, ⊎_elim, add-zero, arith, length-set, below_more}
+use Rattle.std.proofs.Common.{◌≡◌, ℕ, suc, ◌<◌, ◌≤◌, ◌↔◌, List, get_or, replicate, Some, None, Option, sym, refl, ap, ◌∙◌, subst, ⊎_elim, add-zero, arith}
 use lib.ListN.{length-replicate}
-use Rattle.std.proofs.lemmas.List.{get_or-replicate, get_or_past, get_or-set_same, get_or-set_other}
+use Rattle.std.proofs.lemmas.List.{get_or-replicate, get_or_past}
 use Rattle.std.proofs.lemmas.Bool.{ltb-true, lt-ltb, cases_lt}
 use Rattle.lts.specs.Meaning.{Meaning, Lawful}
 use Rattle.theory.specs.Rounds.{Agree, all_of}
 use Rattle.theory.specs.Classes.{Numbering}
 use Rattle.formulas.specs.declared.line.Line.{Line}
-use Rattle.comparison.specs.Reach.{numbers, hits, weight}
-use Rattle.comparison.specs.Landing.{unsplit}
-use Rattle.comparison.specs.Contrasts.{Alike, Weighed}
+use Rattle.comparison.specs.Reach.{numbers, hits}
+use Rattle.comparison.specs.Contrasts.{Alike}
 use Rattle.comparison.specs.Drafts.{fresh}
 use Rattle.comparison.specs.Standing.{Standing, Working, land}
 use Rattle.comparison.specs.declared.draft.Draft.{Draft}
+use Rattle.comparison.specs.declared.draft.Weighed.{Weighed}
 use Rattle.comparison.specs.declared.partition.Partition.{Partition}
+use Rattle.comparison.proofs.Linking.{none_linked}
 use Rattle.comparison.proofs.Marking.{marks_like, marks_deeper}
 use Rattle.comparison.proofs.Rounding.{alike_agree}
 
-none_yet : (n i : ℕ) → get_or {A = Option ℕ} (replicate n None) i None ≡ None
+none_yet : (n i : ℕ) → get_or {A = Option Weighed} (replicate n None) i None ≡ None
 none_yet n i =
     ⊎_elim
     (λ (l : i < n). get_or-replicate n i None None l)
     (λ (l : n ≤ i). get_or_past (replicate n None) i None (rw length-replicate l))
     (cases_lt i n)
-
--- the pairs of no state are counted
-pub none_weighed : (m : Meaning) (n : ℕ → ℕ) (weights : List ℕ) → length weights ≡ 256 → Weighed m n 0 weights
-none_weighed m n weights size = record { size = size; each = λ t l. let b : ⊥ = omega arith in absurd b }
-
--- the pairs of one state more
-pub more_weighed : (m : Meaning) (n : ℕ → ℕ) (s pairs : ℕ) (weights : List ℕ) → s < 256 → pairs ≡ weight n (m.steps s) → Weighed m n s weights → Weighed m n (s + 1) (set weights s pairs)
-more_weighed m n s pairs weights few is h =
-    record { size = length-set weights s pairs ∙ h.size; each = below_more _ s (λ t l. let ne : t ≢ s = omega arith in get_or-set_other weights s t pairs 0 ne ∙ h.each t l) (get_or-set_same weights s pairs 0 (let e = h.size in omega arith) ∙ is) }
 
 -- before the first state of a round
 pub opening : (m : Meaning) (k : ℕ) (old : Partition) (lines : List Line) → Standing m k lines old → Working m k 0 old lines (fresh old)
@@ -42,9 +34,10 @@ opening m k old lines h =
       based = b;
       class_size = b.class_size;
       marks_size = b.marks_size;
-      splits_size = length-replicate 256 unsplit;
-      leaders_size = length-replicate {A = Option ℕ} 256 None;
+      leaders_size = length-replicate {A = Option Weighed} 256 None;
       counted = sym (add-zero old.count);
+      linked = none_linked;
+      born = λ t l. let z : ⊥ = omega arith in absurd z;
       drawn = λ j l. let z : ⊥ = omega arith in absurd z;
       landing =
           record {
@@ -73,7 +66,7 @@ module _ {most : ℕ} (m : Meaning) (law : Lawful most m) (k s : ℕ) (old : Par
       let q = w.follows u (omega arith) in
       let at : get_or x.leaders (land m old x t) None ≡ Some q.0 = ap (λ (v : ℕ). get_or x.leaders v None) e ∙ q.1 in
       let z : p.0 ≡ q.0 = cc in
-      p.2 a c ∙ (ap (λ (v : ℕ). hits (numbers old.class) a c (m.steps v)) z ∙ sym (q.2 a c))
+      p.2 a c ∙ (ap (λ (v : Weighed). hits (numbers old.class) a c (m.steps v.state)) z ∙ sym (q.2 a c))
 
   next_numbering : Numbering m (all_of m) (suc k) x.next.count (numbers x.next.class)
   next_numbering =

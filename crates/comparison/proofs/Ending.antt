@@ -1,5 +1,5 @@
 -- When the rounds end.
-use Rattle.std.proofs.Common.{◌≡◌, ℕ, suc, ◌+◌, ◌<◌, ◌≤◌, List, sym, subst, add-one, arith, below_more}
+use Rattle.std.proofs.Common.{◌≡◌, ℕ, suc, ◌+◌, ◌<◌, ◌≤◌, List, Option, sym, subst, add-one, arith, below_more}
 use Rattle.std.proofs.lemmas.Bool.{lt-ltb}
 use Rattle.lts.specs.Meaning.{Meaning, Lawful}
 use Rattle.theory.specs.Rounds.{all_of, Closed, Stable}
@@ -14,7 +14,7 @@ use Rattle.comparison.specs.Found.{Found, watched}
 use Rattle.comparison.specs.Outcomes.{Compares, Unstable}
 use Rattle.comparison.specs.Standing.{Standing}
 use Rattle.comparison.specs.declared.partition.Partition.{Partition}
-use Rattle.comparison.specs.declared.starts.Starts.{Starts}
+use Rattle.comparison.specs.declared.starts.Apart.{Apart}
 use Rattle.comparison.proofs.Watching.{found_more, found_kept}
 
 pub closed_all : {most : ℕ} (m : Meaning) → Lawful most m → Closed m (all_of m)
@@ -27,8 +27,12 @@ module _ {most : ℕ} (m : Meaning) (law : Lawful most m) (k : ℕ) (lines : Lis
       let f = round_few m (all_of m) k p.count (numbers p.class) (closed_all m law) h.based.numbering in
       omega (arith, all_counted m)
 
-  pub start_low : numbers p.class 0 < p.count
-  start_low = h.based.numbering.below 0 (lt-ltb 0 m.count law.some)
+  pub classes_low : most ≤ 256 → (u : ℕ) → u < m.count → numbers p.class u < 256
+  classes_low most_few u l =
+      let b = h.based.numbering.below u (lt-ltb u m.count l) in
+      let c = standing_few in
+      let s = law.few in
+      omega arith
 
   module _ (lines' : List Line) (p' : Partition) (h' : Standing m (k + 1) lines' p') where
     next : Numbering m (all_of m) (suc k) p'.count (numbers p'.class)
@@ -48,7 +52,7 @@ module _ {most : ℕ} (m : Meaning) (law : Lawful most m) (k : ℕ) (lines : Lis
     stable e =
         round_stable m (all_of m) k p.count (numbers p.class) (numbers p'.class) (closed_all m law) h.based.numbering (subst (λ (K : ℕ). Numbering m (all_of m) (suc k) K (numbers p'.class)) e next)
 
-    module _ (q : ℕ) (inside : q < m.count) (kept : Kept lines lines') (told : Starts) (found : Found m q lines k told) (none : Unstable m k) (low : k < p.count) where
+    module _ (q : ℕ) (inside : q < m.count) (kept : Kept lines lines') (told : Option Apart) (found : Found m q lines k told) (none : Unstable m k) (low : k < p.count) where
       found_next : Found m q lines' (k + 1) (watched told p k q)
       found_next = found_kept m q lines lines' (k + 1) (watched told p k q) kept (found_more m q lines k p told law.some inside h found)
 

@@ -7,8 +7,9 @@ use Rattle.std.proofs.lemmas.Bool.{not-false}
 use Rattle.lts.specs.Meaning.{Meaning, In}
 use Rattle.lts.specs.Laws.Member.{in_left, in_right, in_either}
 use Rattle.comparison.specs.Reach.{hits, holds, Put}
-use Rattle.comparison.specs.Layouts.{from, many, run, SameListed, LaidOut, Laying}
+use Rattle.comparison.specs.Layouts.{run_at, from, many, run, pushed, SameListed, LaidOut, Laying}
 use Rattle.comparison.specs.declared.layout.Layout.{Layout}
+use Rattle.comparison.specs.declared.layout.Run.{Run}
 use Rattle.comparison.specs.declared.reach.Reach.{Reach}
 use Rattle.comparison.proofs.Pairs.{hits_in, take_listed}
 use Rattle.comparison.proofs.Tables.{reached_more}
@@ -31,9 +32,6 @@ run_more steps i x a l room =
 
 -- Lists with the same steps.
 
-pub same_none : SameListed [] []
-same_none = record { to = λ a t h. h; back = λ a t h. h }
-
 -- one step more of both
 pub same_more : (xs ys : List (ℕ × ℕ)) (x : ℕ × ℕ) → SameListed xs ys → SameListed (xs ++ x ∷ []) (ys ++ x ∷ [])
 same_more xs ys x h = record { to = λ a t i. on xs ys (a, t) (h.to a t) i; back = λ a t i. on ys xs (a, t) (h.back a t) i }
@@ -48,15 +46,11 @@ same_again xs ys a t old h =
 
 -- One step more of state s.
 
-abbrev pub pushed : Layout → ℕ × ℕ → Layout
-pushed p x = record { states = p.states; ends = p.ends; first = p.first; counts = p.counts; steps = set p.steps p.used x; used = p.used + 1 }
-
 pub pushed_below : (m : Meaning) (s : ℕ) (p : Layout) (x : ℕ × ℕ) → LaidOut m s p → p.used < 2048 → LaidOut m s (pushed p x)
 pushed_below m s p x h room =
     record {
       ends_size = h.ends_size;
-      first_size = h.first_size;
-      counts_size = h.counts_size;
+      runs_size = h.runs_size;
       steps_size = length-set p.steps p.used x ∙ h.steps_size;
       states = h.states;
       room = omega arith;
@@ -99,38 +93,28 @@ module _ (m : Meaning) (s i k a t : ℕ) (before after : Reach) (p : Layout) (h 
 
 -- All steps of state s.
 
-abbrev pub closed : Layout → ℕ → Bool → ℕ → Layout
-closed p s end i =
-    record { states = p.states; ends = set p.ends s end; first = set p.first s i; counts = set p.counts s (p.used - i); steps = p.steps; used = p.used }
+abbrev pub closed : Layout → ℕ → Bool → Run → Layout
+closed p s end r = record { states = p.states; ends = set p.ends s end; runs = set p.runs s r; steps = p.steps; used = p.used }
 
-pub close_state : (m : Meaning) (s i : ℕ) (p : Layout) (end : Bool) → s < 256 → i ≤ p.used → end ≡ m.ends s → LaidOut m s p → SameListed (m.steps s) (run p i (p.used - i)) → LaidOut m (s + 1) (closed p s end i)
-close_state m s i p end few begun is h last =
-    record {
-      ends_size = length-set p.ends s end ∙ h.ends_size;
-      first_size = length-set p.first s i ∙ h.first_size;
-      counts_size = length-set p.counts s (p.used - i) ∙ h.counts_size;
-      steps_size = h.steps_size;
-      states = h.states;
-      room = h.room;
-      inside = below_more _ s (λ t l. let a = first_kept t l in let b = counts_kept t l in let c = h.inside t l in omega arith) (let a = first_here in let b = counts_here in omega arith);
-      ends = below_more _ s (λ t l. get_or-set_other p.ends s t end false (other t l) ∙ h.ends t l) (get_or-set_same p.ends s end false (let e = h.ends_size in omega arith) ∙ is);
-      steps = below_more _ s (λ t l. subst (SameListed (m.steps t)) (sym (runs (first_kept t l) (counts_kept t l))) (h.steps t l)) (subst (SameListed (m.steps s)) (sym (runs first_here counts_here)) last);
-    }
-  where
-    other : (t : ℕ) → t < s → t ≢ s
-    other t l = omega arith
+module _ (m : Meaning) (s i : ℕ) (p : Layout) (end : Bool) (few : s < 256) (begun : i ≤ p.used) (is : end ≡ m.ends s) (h : LaidOut m s p) (last : SameListed (m.steps s) (run p i (p.used - i))) where
+  abbrev here : Run
+  here = record { from = i; count = p.used - i }
 
-    first_kept : (t : ℕ) → t < s → get_or (set p.first s i) t 0 ≡ from p t
-    first_kept t l = get_or-set_other p.first s t i 0 (other t l)
+  run_kept_at : (t : ℕ) → t < s → run_at p t ≡ run_at (closed p s end here) t
+  run_kept_at t l = sym (get_or-set_other p.runs s t here (record { from = 0; count = 0 }) (let ne : t ≢ s = omega arith in ne))
 
-    counts_kept : (t : ℕ) → t < s → get_or (set p.counts s (p.used - i)) t 0 ≡ many p t
-    counts_kept t l = get_or-set_other p.counts s t (p.used - i) 0 (other t l)
+  run_here : here ≡ run_at (closed p s end here) s
+  run_here = sym (get_or-set_same p.runs s here (record { from = 0; count = 0 }) (let e = h.runs_size in omega arith))
 
-    first_here : get_or (set p.first s i) s 0 ≡ i
-    first_here = get_or-set_same p.first s i 0 (let e = h.first_size in omega arith)
-
-    counts_here : get_or (set p.counts s (p.used - i)) s 0 ≡ p.used - i
-    counts_here = get_or-set_same p.counts s (p.used - i) 0 (let e = h.counts_size in omega arith)
-
-    runs : {a b n o : ℕ} → a ≡ b → n ≡ o → run p a n ≡ run p b o
-    runs e f = ap₂ (run p) e f
+  pub close_state : LaidOut m (s + 1) (closed p s end here)
+  close_state =
+      record {
+        ends_size = length-set p.ends s end ∙ h.ends_size;
+        runs_size = length-set p.runs s here ∙ h.runs_size;
+        steps_size = h.steps_size;
+        states = h.states;
+        room = h.room;
+        inside = below_more _ s (λ t l. subst (λ (r : Run). r.from + r.count ≤ p.used) (run_kept_at t l) (h.inside t l)) (subst (λ (r : Run). r.from + r.count ≤ p.used) run_here (omega arith));
+        ends = below_more _ s (λ t l. get_or-set_other p.ends s t end false (let ne : t ≢ s = omega arith in ne) ∙ h.ends t l) (get_or-set_same p.ends s end false (let e = h.ends_size in omega arith) ∙ is);
+        steps = below_more _ s (λ t l. subst (λ (r : Run). SameListed (m.steps t) (run p r.from r.count)) (run_kept_at t l) (h.steps t l)) (subst (λ (r : Run). SameListed (m.steps s) (run p r.from r.count)) run_here last);
+      }

@@ -1,5 +1,5 @@
 -- Lines that mark states, as lines are added.
-use Rattle.std.proofs.Common.{◌≡◌, ℕ, suc, ◌+◌, ◌<◌, ◌≤◌, true, ◌↔◌, List, length, sym, refl, ap, ◌∙◌, subst, arith}
+use Rattle.std.proofs.Common.{◌≡◌, ℕ, suc, ◌+◌, ◌<◌, ◌≤◌, true, ◌↔◌, List, length, sym, refl, ◌∙◌, subst, arith}
 use mathlib.Core.Logic.Iff
 use Rattle.std.proofs.lemmas.List.{length_push}
 use Rattle.std.proofs.lemmas.Bool.{lt-ltb, le-leb, and_from}
@@ -66,14 +66,6 @@ module _ (m : Meaning) (ls : List Line) where
       (λ t l. (λ r x. r ((h.exact t l).1 x), λ r x. r ((h.exact t l).0 x)))
 
 -- the four lines that divide the states of a class, as they are pushed
-pub divided_by : (ls one two three four : List Line) (a i j p q r s : ℕ) → one ≡ with_line ls (Step a i) → two ≡ with_line one (Both j p) → three ≡ with_line two (Not p) → four ≡ with_line three (Both j r) → p ≡ length ls → q ≡ length one → r ≡ length two → s ≡ length three → (four ≡ divided ls a i j) × (q ≡ length ls + 1) × (s ≡ length ls + 3)
-divided_by ls one two three four a i j p q r s e₁ e₂ e₃ e₄ hp hq hr hs =
-    let n₁ : length one ≡ length ls + 1 = ap length e₁ ∙ length_push ls (Step a i) in
-    let n₂ : length two ≡ length one + 1 = ap length e₂ ∙ length_push one (Both j p) in
-    let n₃ : length three ≡ length two + 1 = ap length e₃ ∙ length_push two (Not p) in
-    let r' : r ≡ length ls + 2 = omega arith in
-    (cc, omega arith, omega arith)
-
 module _ (m : Meaning) (ls : List Line) (a i j : ℕ) where
   abbrev one : List Line
   one = with_line ls (Step a i)

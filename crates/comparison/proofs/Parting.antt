@@ -1,5 +1,5 @@
 -- A state leaves its class for a new one.
-use Rattle.std.proofs.Common.{◌≡◌, ℕ, suc, ◌+◌, ◌<◌, ◌≤◌, Bool, true, false, cond, not, ◌≢◌, ◌↔◌, List, length, get_or, set, Some, None, sym, refl, ap, ◌∙◌, subst, ⊎_elim, add-one, arith, length-set, below_more}
+use Rattle.std.proofs.Common.{◌≡◌, ℕ, suc, ◌+◌, ◌<◌, ◌≤◌, Bool, true, false, cond, not, ◌≢◌, ◌↔◌, List, length, get_or, set, Some, None, Option, sym, refl, ap, ◌∙◌, subst, ⊎_elim, add-one, arith, length-set, below_more}
 use mathlib.Core.Bool.{beq}
 use mathlib.Core.Logic.Iff
 use Rattle.std.proofs.lemmas.List.{get_or-set_same, get_or-set_other}
@@ -10,14 +10,18 @@ use Rattle.formulas.specs.declared.line.Line.{Line}
 use Rattle.comparison.specs.Reach.{numbers, hits}
 use Rattle.comparison.specs.Marks.{Marks, Kept, divided}
 use Rattle.comparison.specs.Landing.{unsplit, Drawn, DrawnAt, Landing, moved}
-use Rattle.comparison.specs.Contrasts.{Alike, Parts}
+use Rattle.comparison.specs.Contrasts.{Alike, Weighs, Parts}
+use Rattle.comparison.specs.Links.{pushed, Linked}
 use Rattle.comparison.specs.Drafts.{parted, FitsIn}
 use Rattle.comparison.specs.Standing.{Based, Working, Parting, land}
 use Rattle.comparison.specs.declared.draft.Draft.{Draft}
+use Rattle.comparison.specs.declared.draft.Weighed.{Weighed}
+use Rattle.comparison.specs.declared.links.Chain.{Chain}
 use Rattle.comparison.specs.declared.partition.Partition.{Partition}
 use Rattle.comparison.specs.declared.split.Split.{Split}
 use Rattle.comparison.proofs.Marking.{kept_divided, length_divided, wellformed_divided, marks_with, marks_without, marks_like, marks_kept}
 use Rattle.comparison.proofs.Splitting.{landing_few, landing_split, moved_new, moved_old, moved_rest, stays, moves, elsewhere}
+use Rattle.comparison.proofs.Linking.{born_more}
 use Rattle.comparison.proofs.Sending.{sent_more}
 use Rattle.comparison.proofs.Rounding.{hit_class, agree_alike}
 
@@ -58,8 +62,11 @@ beq_other : (a b : Bool) → a ≡ not b → beq a b ≡ false
 beq_other a true e = subst (λ (x : Bool). beq x true ≡ false) (sym e) refl
 beq_other a false e = subst (λ (x : Bool). beq x false ≡ false) (sym e) refl
 
-module _ {most : ℕ} (m : Meaning) (law : Lawful most m) (few : most ≤ 256) (k s : ℕ) (old : Partition) (lines : List Line) (x : Draft) (w : Working m k s old lines x) (state : s < m.count) (y : Split) (q : Parting m s old x y) where
-  abbrev l : ℕ
+module _ {most : ℕ} {m : Meaning} (law : Lawful most m) (few : most ≤ 256) {k : ℕ} {v : Weighed} {old : Partition} {lines : List Line} {x : Draft} (w : Working m k v.state old lines x) (state : v.state < m.count) {y : Split} (q : Parting m v old x y) where
+  abbrev s : ℕ
+  s = v.state
+
+  abbrev l : Weighed
   l = q.leader
 
   is : land m old x s ≡ y.from
@@ -68,7 +75,7 @@ module _ {most : ℕ} (m : Meaning) (law : Lawful most m) (few : most ≤ 256) (
   led_by : get_or x.leaders y.from None ≡ Some l
   led_by = q.led
 
-  parts : Parts m (numbers old.class) s l y.from y
+  parts : Parts m (numbers old.class) s l.state y.from y
   parts = q.parts
 
   abbrev n : ℕ → ℕ
@@ -81,7 +88,7 @@ module _ {most : ℕ} (m : Meaning) (law : Lawful most m) (few : most ≤ 256) (
   abbrev test : ℕ → Bool
   test t = beq (hits n y.action y.into (m.steps t)) y.side
 
-  leader : (l < s) × (land m old x l ≡ y.from)
+  leader : (l.state < s) × (land m old x l.state ≡ y.from) × Weighs m (numbers old.class) l
   leader = w.leads y.from l led_by
 
   respects : (t u : ℕ) → t < m.count → u < m.count → Agree m (suc k) t u → test t ≡ test u
@@ -91,16 +98,16 @@ module _ {most : ℕ} (m : Meaning) (law : Lawful most m) (few : most ≤ 256) (
   gone_s : test s ≡ true
   gone_s = beq_same _ y.side parts.gone
 
-  stays_l : test l ≡ false
+  stays_l : test l.state ≡ false
   stays_l = beq_other _ y.side parts.stays
 
   split_landing : Landing m k n (suc e) (moved (land m old x) test y.from e)
   split_landing =
       let low = leader.0 in
-      landing_split m k n e (land m old x) w.landing test y.from respects s l state (omega arith) is leader.1 gone_s stays_l
+      landing_split m k n e (land m old x) w.landing test y.from respects s l.state state (omega arith) is leader.1 gone_s stays_l
 
   -- there is room for one class more
-  part_room : (e < 256) × (x.made < 256) × (length lines + 4 ≤ 1024) × (y.from < 256) × (y.into < old.count)
+  part_room : (e < 256) × (x.links.made < 256) × (length lines + 4 ≤ 1024) × (y.from < 256) × (y.into < old.count)
   part_room =
       let few_classes = landing_few m k n (suc e) (moved (land m old x) test y.from e) split_landing in
       let low = w.landing.below s state in
@@ -111,9 +118,9 @@ module _ {most : ℕ} (m : Meaning) (law : Lawful most m) (few : most ≤ 256) (
     where
       side : (b : Bool) → y.side ≡ b → y.into < old.count
       side true z = hit_class m law k old.count n w.based.numbering s y.action y.into (parts.gone ∙ z)
-      side false z = hit_class m law k old.count n w.based.numbering l y.action y.into (parts.stays ∙ ap not z)
+      side false z = hit_class m law k old.count n w.based.numbering l.state y.action y.into (parts.stays ∙ ap not z)
 
-  pub part_fits : FitsIn x s y
+  pub part_fits : FitsIn x v y
   part_fits =
       let r = part_room in
       let a = r.0 in
@@ -122,34 +129,30 @@ module _ {most : ℕ} (m : Meaning) (law : Lawful most m) (few : most ≤ 256) (
       let f = law.few in
       let i = w.class_size in
       let j = w.marks_size in
-      let u = w.splits_size in
       let v = w.leaders_size in
-      record { state = omega arith; number = omega arith; room = a; splits = omega arith; made = b; from = omega arith; marks = omega arith; leaders = omega arith }
-
-  pub from_low : y.from < 256
-  from_low = part_room.3
+      record { state = omega arith; number = omega arith; room = a; made = b; from = omega arith; low = c; marks = omega arith; leaders = omega arith }
 
   pub lines_room : length lines + 4 ≤ 1024
   lines_room = part_room.2
 
-  module _ (gone stay : ℕ) (gone_is : gone ≡ cond y.side (length lines + 1) (length lines + 3)) (stay_is : stay ≡ cond y.side (length lines + 3) (length lines + 1)) where
+  module _ (gone stay : ℕ) (gone_is : gone ≡ cond y.side (length lines + 1) (length lines + 3)) (stay_is : stay ≡ cond y.side (length lines + 3) (length lines + 1)) (chains : List (Option Chain)) (nexts : List (Option ℕ)) (linked : Linked (pushed x.links y chains nexts)) where
     abbrev after : Draft
-    after = parted x s y gone stay
+    after = parted x v y gone stay chains nexts
 
     abbrev lines' : List Line
     lines' = divided lines y.action (numbers old.marks y.into) (numbers x.next.marks y.from)
 
     land_after : (t : ℕ) → land m old after t ≡ moved (land m old x) test y.from e t
     land_after t =
-        let room : x.made < length x.splits = let r = part_room.1 in let z = w.splits_size in omega arith in
-        let more = sent_more (λ a c. hits n a c (m.steps t)) x.splits old.count (n t) x.made y room in
+        let room : x.links.made < length x.links.splits = let r = part_room.1 in let z = w.linked.splits_size in omega arith in
+        let more = sent_more (λ a c. hits n a c (m.steps t)) x.links.splits old.count (n t) x.links.made y room in
         subst (λ (v : ℕ). land m old after t ≡ moved (land m old x) test y.from v t) (sym w.counted) more
 
     after_landing : Landing m k n (e + 1) (land m old after)
     after_landing = rw add-one (subst (Landing m k n (suc e)) (λ i t. sym (land_after t) i) split_landing)
 
     -- the leader, and all that are like it, stay
-    stays_like : (t : ℕ) → Alike m n t l → land m old after t ≡ land m old x t
+    stays_like : (t : ℕ) → Alike m n t l.state → land m old after t ≡ land m old x t
     stays_like t like =
         land_after t ∙ stays (land m old x) test y.from e t (ap (λ (b : Bool). beq b y.side) (like y.action y.into) ∙ stays_l)
 
@@ -162,7 +165,7 @@ module _ {most : ℕ} (m : Meaning) (law : Lawful most m) (few : most ≤ 256) (
             let r = w.follows t lt in
             let here : get_or x.leaders y.from None ≡ Some r.0 = ap (λ (v : ℕ). get_or x.leaders v None) (sym h) ∙ r.1 in
             let z : r.0 ≡ l = cc in
-            stays_like t (subst (λ (v : ℕ). Alike m n t v) z r.2)
+            stays_like t (subst (λ (u : Weighed). Alike m n t u.state) z r.2)
 
     lands_new : land m old after s ≡ e
     lands_new = land_after s ∙ moves (land m old x) test y.from e s is gone_s
@@ -188,47 +191,47 @@ module _ {most : ℕ} (m : Meaning) (law : Lawful most m) (few : most ≤ 256) (
     leaders_room : e < length x.leaders
     leaders_room = let r = part_room.0 in let z = w.leaders_size in omega arith
 
-    leads_after : (c u : ℕ) → get_or (set x.leaders e (Some s)) c None ≡ Some u → (u < s + 1) × (land m old after u ≡ c)
+    leads_after : (c : ℕ) (u : Weighed) → get_or (set x.leaders e (Some v)) c None ≡ Some u → (u.state < s + 1) × (land m old after u.state ≡ c) × Weighs m n u
     leads_after c u h = ⊎_elim same other (cases_eq c e)
       where
-        same : c ≡ e → (u < s + 1) × (land m old after u ≡ c)
+        same : c ≡ e → (u.state < s + 1) × (land m old after u.state ≡ c) × Weighs m n u
         same d =
-            let here : get_or (set x.leaders e (Some s)) c None ≡ Some s = ap (λ (v : ℕ). get_or (set x.leaders e (Some s)) v None) d ∙ get_or-set_same x.leaders e (Some s) None leaders_room in
-            let z : s ≡ u = cc in
-            (omega arith, ap (land m old after) (sym z) ∙ (lands_new ∙ sym d))
+            let here : get_or (set x.leaders e (Some v)) c None ≡ Some v = ap (λ (b : ℕ). get_or (set x.leaders e (Some v)) b None) d ∙ get_or-set_same x.leaders e (Some v) None leaders_room in
+            let z : v ≡ u = cc in
+            subst (λ (b : Weighed). (b.state < s + 1) × (land m old after b.state ≡ c) × Weighs m n b) z (omega arith, lands_new ∙ sym d, q.weighs)
 
-        other : (c ≡ e → ⊥) → (u < s + 1) × (land m old after u ≡ c)
+        other : (c ≡ e → ⊥) → (u.state < s + 1) × (land m old after u.state ≡ c) × Weighs m n u
         other ne =
-            let r = w.leads c u (sym (get_or-set_other x.leaders e c (Some s) None ne) ∙ h) in
+            let r = w.leads c u (sym (get_or-set_other x.leaders e c (Some v) None ne) ∙ h) in
             let b = r.0 in
-            (omega arith, unmoved u r.0 ∙ r.1)
+            (omega arith, unmoved u.state r.0 ∙ r.1, r.2)
 
-    follows_after : (t : ℕ) → t < s + 1 → (u : ℕ) × (get_or (set x.leaders e (Some s)) (land m old after t) None ≡ Some u) × Alike m n t u
+    follows_after : (t : ℕ) → t < s + 1 → (u : Weighed) × (get_or (set x.leaders e (Some v)) (land m old after t) None ≡ Some u) × Alike m n t u.state
     follows_after = below_more _ s before last
       where
-        before : (t : ℕ) → t < s → (u : ℕ) × (get_or (set x.leaders e (Some s)) (land m old after t) None ≡ Some u) × Alike m n t u
+        before : (t : ℕ) → t < s → (u : Weighed) × (get_or (set x.leaders e (Some v)) (land m old after t) None ≡ Some u) × Alike m n t u.state
         before t lt =
             let r = w.follows t lt in
             let b = w.landing.below t (omega arith) in
             let ne : land m old x t ≢ e = omega arith in
-            (r.0, ap (λ (v : ℕ). get_or (set x.leaders e (Some s)) v None) (unmoved t lt) ∙ (get_or-set_other x.leaders e (land m old x t) (Some s) None ne ∙ r.1), r.2)
+            (r.0, ap (λ (b : ℕ). get_or (set x.leaders e (Some v)) b None) (unmoved t lt) ∙ (get_or-set_other x.leaders e (land m old x t) (Some v) None ne ∙ r.1), r.2)
 
-        last : (u : ℕ) × (get_or (set x.leaders e (Some s)) (land m old after s) None ≡ Some u) × Alike m n s u
+        last : (u : Weighed) × (get_or (set x.leaders e (Some v)) (land m old after s) None ≡ Some u) × Alike m n s u.state
         last =
-            (s, ap (λ (v : ℕ). get_or (set x.leaders e (Some s)) v None) lands_new ∙ get_or-set_same x.leaders e (Some s) None leaders_room, λ a c. refl)
+            (v, ap (λ (b : ℕ). get_or (set x.leaders e (Some v)) b None) lands_new ∙ get_or-set_same x.leaders e (Some v) None leaders_room, λ a c. refl)
 
-    drawn_after : Drawn (set x.splits x.made y) (x.made + 1)
-    drawn_after = below_more _ x.made before last
+    drawn_after : Drawn (set x.links.splits x.links.made y) (x.links.made + 1)
+    drawn_after = below_more _ x.links.made before last
       where
-        before : (j : ℕ) → j < x.made → DrawnAt (get_or (set x.splits x.made y) j unsplit)
+        before : (j : ℕ) → j < x.links.made → DrawnAt (get_or (set x.links.splits x.links.made y) j unsplit)
         before j lj =
-            let ne : j ≢ x.made = omega arith in
-            subst DrawnAt (sym (get_or-set_other x.splits x.made j y unsplit ne)) (w.drawn j lj)
+            let ne : j ≢ x.links.made = omega arith in
+            subst DrawnAt (sym (get_or-set_other x.links.splits x.links.made j y unsplit ne)) (w.drawn j lj)
 
-        last : DrawnAt (get_or (set x.splits x.made y) x.made unsplit)
+        last : DrawnAt (get_or (set x.links.splits x.links.made y) x.links.made unsplit)
         last =
-            let room : x.made < length x.splits = let r = part_room.1 in let z = w.splits_size in omega arith in
-            subst DrawnAt (sym (get_or-set_same x.splits x.made y unsplit room)) (record { action = parts.action; into = parts.into })
+            let room : x.links.made < length x.links.splits = let r = part_room.1 in let z = w.linked.splits_size in omega arith in
+            subst DrawnAt (sym (get_or-set_same x.links.splits x.links.made y unsplit room)) (record { action = parts.action; into = parts.into })
 
     into_mark : Marks m lines k (numbers old.marks y.into) (λ u. n u ≡ y.into)
     into_mark = w.based.marked y.into part_room.4
@@ -314,9 +317,10 @@ module _ {most : ℕ} (m : Meaning) (law : Lawful most m) (few : most ≤ 256) (
           based = based_after;
           class_size = length-set x.next.class s e ∙ w.class_size;
           marks_size = length-set (set x.next.marks y.from stay) e gone ∙ (length-set x.next.marks y.from stay ∙ w.marks_size);
-          splits_size = length-set x.splits x.made y ∙ w.splits_size;
-          leaders_size = length-set x.leaders e (Some s) ∙ w.leaders_size;
+          leaders_size = length-set x.leaders e (Some v) ∙ w.leaders_size;
           counted = omega arith;
+          linked = linked;
+          born = born_more x.links w.linked part_room.1 y part_room.3 old.count chains nexts w.born (let l = low in omega arith);
           drawn = drawn_after;
           landing = after_landing;
           settled = settled_after;
@@ -327,7 +331,10 @@ module _ {most : ℕ} (m : Meaning) (law : Lawful most m) (few : most ≤ 256) (
           few = omega arith;
         }
 
-    -- as the calls leave the lines and the draft
-    pub found_works : (ls : List Line) (z : Draft) → ls ≡ lines' → z ≡ after → Working m k (s + 1) old ls z × Kept lines ls
-    found_works ls z p q =
-        (subst (λ (v : List Line). Working m k (s + 1) old v z) (sym p) (subst (Working m k (s + 1) old lines') (sym q) part_works), subst (Kept lines) (sym p) (kept_divided m lines y.action (numbers old.marks y.into) (numbers x.next.marks y.from)))
+  -- as the calls leave the lines and the draft
+  pub found_works : (gone stay : ℕ) → gone ≡ cond y.side (length lines + 1) (length lines + 3) → stay ≡ cond y.side (length lines + 3) (length lines + 1) → (ls : List Line) (z : Draft) → ls ≡ divided lines y.action (numbers old.marks y.into) (numbers x.next.marks y.from) → z ≡ parted x v y gone stay z.links.chains z.links.nexts → Linked z.links → Working m k (s + 1) old ls z × Kept lines ls
+  found_works gone stay gone_is stay_is ls z p q linked =
+      let linked' : Linked (pushed x.links y z.links.chains z.links.nexts) = subst Linked (ap (λ (d : Draft). d.links) q) linked in
+      let works = part_works gone stay gone_is stay_is z.links.chains z.links.nexts linked' in
+      let lines' = divided lines y.action (numbers old.marks y.into) (numbers x.next.marks y.from) in
+      (subst (λ (v : List Line). Working m k (s + 1) old v z) (sym p) (subst (Working m k (s + 1) old lines') (sym q) works), subst (Kept lines) (sym p) (kept_divided m lines y.action (numbers old.marks y.into) (numbers x.next.marks y.from)))

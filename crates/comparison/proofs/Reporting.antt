@@ -1,6 +1,6 @@
 -- What the rounds found, as it is reported.
-use Rattle.std.proofs.Common.{◌≡◌, ℕ, ◌+◌, ◌-◌, ◌*◌, ◌<◌, ◌≤◌, Bool, true, List, ◌++◌, length, get_or, take, drop, sym, refl, ap, ◌∙◌, subst, inl, ⊎_elim, add-zero, arith}
-use Rattle.std.proofs.lemmas.List.{length-take-le, get_or_append_left, get_or-take, take_at, take-take, drop_at}
+use Rattle.std.proofs.Common.{◌≡◌, ℕ, ◌+◌, ◌-◌, ◌*◌, ◌<◌, ◌≤◌, Bool, true, List, Some, None, Option, ◌++◌, length, get_or, take, drop, sym, refl, ap, ◌∙◌, subst, inl, ⊎_elim, add-zero, arith}
+use Rattle.std.proofs.lemmas.List.{length-take-le, get_or_append_left, get_or-take, take_at, drop_at}
 use Rattle.std.proofs.lemmas.Bool.{ltb-true, lt-ltb}
 use Rattle.lts.specs.Meaning.{Meaning, Lawful}
 use Rattle.lts.specs.Joined.{joined}
@@ -24,8 +24,7 @@ use Rattle.comparison.specs.Buffers.{told, left_in, FitsLines}
 use Rattle.comparison.specs.Compared.{Distinguished, Judged, Reported}
 use Rattle.comparison.specs.declared.outcome.Outcome.{Outcome}
 use Rattle.comparison.specs.declared.report.Verdict.{Verdict}
-use Rattle.comparison.specs.declared.starts.Starts.{Starts}
-use Rattle.comparison.specs.declared.starts.Starts.TheVariants.{Alike, Apart}
+use Rattle.comparison.specs.declared.starts.Apart.{Apart}
 use Rattle.comparison.proofs.Ending.{closed_all}
 
 -- a numbering that is the same on the set
@@ -138,16 +137,16 @@ module _ (p q : Meaning) (law_p : Lawful 128 p) (law_q : Lawful 128 q) where
     counts_low = let f = KFew in let s = law.few in let l = h.low in (omega arith, omega arith)
 
     module _ (lines : List Line) (classes : List ℕ) (line_room : 4 * m.count - 3 ≤ length lines) (class_room : m.count ≤ length classes) where
-      fits : (t : Starts) (k : ℕ) → Found m p.count ls k t → FitsLines t ls lines
-      fits Alike k found = tt
-      fits (Apart i d) k found = let l = found.placed in let f = h.few in let g = KFew in (l, omega arith)
+      fits : (t : Option Apart) (k : ℕ) → Found m p.count ls k t → FitsLines t ls lines
+      fits None k found = tt
+      fits (Some x) k found = let l = found.placed in let f = h.few in let g = KFew in (l, omega arith)
 
       pub fits_lines : FitsLines o.starts ls lines
       fits_lines = fits o.starts (o.rounds + 1) h.found
 
-      judged : (t : Starts) → Found m p.count ls (o.rounds + 1) t → Judged p q o.classes.count lines (told t) (left_in t ls lines)
-      judged Alike found = (starts_related o.rounds h.rounds.stable (found o.rounds (omega arith)), refl)
-      judged (Apart i d) found = distinguished ls o.classes.count i d lines h.few h.well found
+      judged : (t : Option Apart) → Found m p.count ls (o.rounds + 1) t → Judged p q o.classes.count lines (told t) (left_in t ls lines)
+      judged None found = (starts_related o.rounds h.rounds.stable (found o.rounds (omega arith)), refl)
+      judged (Some x) found = distinguished ls o.classes.count x.line x.depth lines h.few h.well found
 
       pub reported : Reported p q lines classes (record { verdict = told o.starts; classes = o.classes.count; rounds = o.rounds }) (left_in o.starts ls lines) (take m.count o.classes.class ++ drop m.count classes)
       reported =
@@ -170,9 +169,3 @@ module _ (p q : Meaning) (law_p : Lawful 128 p) (law_q : Lawful 128 q) where
           subst (λ (x : Verdict). Reported p q lines classes (record { verdict = x; classes = o.classes.count; rounds = o.rounds }) lines'' classes'') (sym is-v)
           (subst (λ (x : List Line). Reported p q lines classes (record { verdict = told o.starts; classes = o.classes.count; rounds = o.rounds }) x classes'') (sym is-lines)
           (subst (Reported p q lines classes (record { verdict = told o.starts; classes = o.classes.count; rounds = o.rounds }) (left_in o.starts ls lines)) (sym whole) reported))
-
--- the lines that were written are in front
-pub left_apart : (t : Starts) (i d used : ℕ) (all lines to : List Line) → used ≤ length all → t ≡ Apart i d → FitsLines t (take used all) lines → to ≡ take (i + 1) all ++ drop (i + 1) lines → to ≡ left_in t (take used all) lines
-left_apart t i d used all lines to room e =
-    subst (λ (x : Starts). FitsLines x (take used all) lines → to ≡ take (i + 1) all ++ drop (i + 1) lines → to ≡ left_in x (take used all) lines) (sym e)
-    (λ f g. let n = length-take-le used all room in let l = f.0 in g ∙ ap (λ (v : List Line). v ++ drop (i + 1) lines) (sym (take-take (i + 1) used all (omega arith))))

@@ -1,5 +1,5 @@
 -- Two procedures with the same steps compare alike.
-use Rattle.std.proofs.Common.{◌≡◌, ℕ, zero, suc, ◌+◌, ◌<◌, ◌≤◌, true, ltb, ◌↔◌, List, sym, ap, ◌∙◌, inl, inr, ⊎_elim, arith}
+use Rattle.std.proofs.Common.{◌≡◌, ℕ, zero, suc, ◌+◌, ◌<◌, ◌≤◌, true, ltb, ◌↔◌, List, Some, None, Option, sym, ap, ◌∙◌, inl, inr, ⊎_elim, arith}
 use Rattle.std.specs.List.{range_with_len}
 use Rattle.std.proofs.lemmas.Bool.{le-ltb, lt-ltb, cases_lt, cases_eq}
 use Rattle.lts.specs.Meaning.{Meaning, Lawful, In}
@@ -13,8 +13,7 @@ use Rattle.comparison.specs.Layouts.{step_at, from, many, laid, SameListed, Same
 use Rattle.comparison.specs.Outcomes.{Compares}
 use Rattle.comparison.specs.declared.layout.Layout.{Layout}
 use Rattle.comparison.specs.declared.outcome.Outcome.{Outcome}
-use Rattle.comparison.specs.declared.starts.Starts.{Starts}
-use Rattle.comparison.specs.declared.starts.Starts.TheVariants.{Alike, Apart}
+use Rattle.comparison.specs.declared.starts.Apart.{Apart}
 
 pub same_turned : (m n : Meaning) → SameSteps m n → SameSteps n m
 same_turned m n h =
@@ -53,12 +52,12 @@ module _ (m n : Meaning) (h : SameSteps m n) where
       let r = e s t (within s x) (within t y) in
       (λ a. (agree_both (suc k) s t).0 (r.0 ((agree_both k s t).1 a)), λ a. (agree_both k s t).0 (r.1 ((agree_both (suc k) s t).1 a)))
 
-  found_same : (q : ℕ) (lines : List Line) (k : ℕ) (told : Starts) → Found m q lines k told → Found n q lines k told
-  found_same q lines k Alike e = λ j l. (agree_both j 0 q).0 (e j l)
-  found_same q lines k (Apart i d) e =
+  found_same : (q : ℕ) (lines : List Line) (k : ℕ) (told : Option Apart) → Found m q lines k told → Found n q lines k told
+  found_same q lines k None e = λ j l. (agree_both j 0 q).0 (e j l)
+  found_same q lines k (Some x) e =
       record {
         placed = e.placed;
-        tells = ((holds_same m n h (formula lines i) 0).0 e.tells.0, λ x. e.tells.1 ((holds_same m n h (formula lines i) q).1 x));
+        tells = ((holds_same m n h (formula lines x.line) 0).0 e.tells.0, λ z. e.tells.1 ((holds_same m n h (formula lines x.line) q).1 z));
         shallow = e.shallow;
         agreed = λ j l. (agree_both j 0 q).0 (e.agreed j l);
       }

@@ -1,8 +1,6 @@
 -- Round 0: the classes by end marks, and their lines.
-use Rattle.std.proofs.Common.{◌≡◌, ℕ, zero, suc, ◌+◌, ◌<◌, Bool, true, false, cond, ◌≢◌, ◌↔◌, List, [], length, get_or, set, replicate, sym, refl, ◌∙◌, subst, inl, inr, ⊎_elim, arith, length-set, below_more}
+use Rattle.std.proofs.Common.{◌≡◌, ℕ, zero, suc, ◌<◌, Bool, true, false, cond, ◌↔◌, List, [], length, sym, refl, ◌∙◌, subst, ⊎_elim, arith}
 use mathlib.Core.Bool.{beq}
-use lib.ListN.{length-replicate}
-use Rattle.std.proofs.lemmas.List.{get_or-set_same, get_or-set_other}
 use Rattle.std.proofs.lemmas.Bool.{ltb-true, lt-ltb, true≢false, false≢true}
 use Rattle.lts.specs.Meaning.{Meaning, Lawful}
 use Rattle.theory.specs.Rounds.{all_of}
@@ -17,39 +15,8 @@ use Rattle.comparison.specs.Standing.{Standing}
 use Rattle.comparison.proofs.Marking.{marks_kept, marks_like, marks_not, kept_push}
 use Rattle.comparison.proofs.Parting.{on_side, off_side}
 
--- One state more.
-
 apart_like : (m : Meaning) (t : ℕ) → beq (m.ends t) (m.ends 0) ≡ true → apart m t ≡ 0
 apart_like m t e = rw e refl
-
-apart_unlike : (m : Meaning) (t : ℕ) → beq (m.ends t) (m.ends 0) ≡ false → apart m t ≡ 1
-apart_unlike m t e = rw e refl
-
-module _ (m : Meaning) (s : ℕ) (class : List ℕ) (K : ℕ) (h : Ended m s class K) (room : s < 256) (here start : Bool) (is : here ≡ m.ends s) (is_start : start ≡ m.ends 0) where
-  written : (v : ℕ) → apart m s ≡ v → (t : ℕ) → t < s + 1 → get_or (set class s v) t 0 ≡ apart m t
-  written v e = below_more _ s (λ t l. let ne : t ≢ s = omega arith in get_or-set_other class s t v 0 ne ∙ h.each t l) last
-    where
-      last : get_or (set class s v) s 0 ≡ apart m s
-      last = let z = h.size in let l : s < length class = omega arith in get_or-set_same class s v 0 l ∙ sym e
-
-  pub like_start : beq here start ≡ true → Ended m (s + 1) (set class s 0) K
-  like_start e =
-      let like = apart_like m s (subst (λ (b : Bool). beq (m.ends s) b ≡ true) is_start (subst (λ (b : Bool). beq b start ≡ true) is e)) in
-      record { size = length-set class s 0 ∙ h.size; each = written 0 like; counted = ⊎_elim (λ r. inl (r.0, below_more _ s r.1 like)) (λ r. inr (r.0, (r.1.0, later r.1.1, r.1.2))) h.counted }
-    where
-      later : {t : ℕ} → t < s → t < s + 1
-      later l = omega arith
-
-  pub unlike_start : beq here start ≡ false → Ended m (s + 1) (set class s 1) 2
-  unlike_start e =
-      let unlike = apart_unlike m s (subst (λ (b : Bool). beq (m.ends s) b ≡ false) is_start (subst (λ (b : Bool). beq b start ≡ false) is e)) in
-      record { size = length-set class s 1 ∙ h.size; each = written 1 unlike; counted = inr (refl, (s, omega arith, unlike)) }
-
-pub none_settled : (m : Meaning) → Ended m 0 (replicate 256 0) 1
-none_settled m =
-    record { size = length-replicate {A = ℕ} 256 0; each = λ t l. let b : ⊥ = omega arith in absurd b; counted = inl (refl, λ t l. let b : ⊥ = omega arith in absurd b) }
-
--- The numbering.
 
 beq_self : (b : Bool) → beq b b ≡ true
 beq_self true = refl

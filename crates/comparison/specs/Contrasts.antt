@@ -1,13 +1,13 @@
 -- What one state reaches and another does not.
-use Rattle.std.specs.Prelude.{◌≡◌, ℕ, ◌<◌, ◌≤◌, not, List, length, Some, None, Option, slice_index}
+use Rattle.std.specs.Prelude.{◌≡◌, ℕ, ◌<◌, ◌≤◌, not, Some, None, Option}
 use Rattle.lts.specs.Meaning.{Meaning}
 use Rattle.comparison.specs.Reach.{hits, weight}
+use Rattle.comparison.specs.declared.draft.Weighed.{Weighed}
 use Rattle.comparison.specs.declared.split.Split.{Split}
 
--- how many pairs each state below s reaches
-pub record Weighed (m : Meaning) (n : ℕ → ℕ) (s : ℕ) (weights : List ℕ) : Type 0 where
-  pub size : length weights ≡ 256
-  pub each : (t : ℕ) → t < s → slice_index weights t ≡ weight n (m.steps t)
+-- the state reaches so many pairs
+abbrev pub Weighs : Meaning → (ℕ → ℕ) → Weighed → Type 0
+Weighs m n s = s.weight ≡ weight n (m.steps s.state)
 
 -- states s and t reach the same pairs
 abbrev pub Alike : Meaning → (ℕ → ℕ) → ℕ → ℕ → Type 0
@@ -22,6 +22,6 @@ pub record Parts (m : Meaning) (n : ℕ → ℕ) (s t from : ℕ) (x : Split) : 
   pub stays : hits n x.action x.into (m.steps t) ≡ not x.side
 
 -- a split that parts s from t, or none where they are alike
-abbrev pub Contrast : Meaning → (ℕ → ℕ) → ℕ → ℕ → ℕ → Option Split → Type 0
-Contrast m n s t from None = Alike m n s t
-Contrast m n s t from (Some x) = Parts m n s t from x
+abbrev pub Contrast : Meaning → (ℕ → ℕ) → Weighed → Weighed → ℕ → Option Split → Type 0
+Contrast m n s t from None = Alike m n s.state t.state
+Contrast m n s t from (Some x) = Parts m n s.state t.state from x

@@ -1,21 +1,25 @@
 -- Two procedures laid out flat: for each state, where its steps begin and how many they are.
-use Rattle.std.specs.Prelude.{◌≡◌, ℕ, ◌+◌, ◌-◌, ◌<◌, ◌≤◌, Bool, true, false, cond, ◌&&◌, List, [], map, length, take, nat_lt, slice_index, slice_index_or}
+use Rattle.std.specs.Prelude.{◌≡◌, ℕ, ◌+◌, ◌-◌, ◌<◌, ◌≤◌, false, cond, ◌&&◌, List, [], map, length, take, nat_lt, slice_index_or, slice_set}
 use Rattle.std.specs.List.{range_with_len}
 use Rattle.lts.specs.Meaning.{Meaning, In}
 use Rattle.comparison.specs.Reach.{Reached}
 use Rattle.comparison.specs.declared.layout.Layout.{Layout}
+use Rattle.comparison.specs.declared.layout.Run.{Run}
 use Rattle.comparison.specs.declared.reach.Reach.{Reach}
 
 abbrev pub step_at : Layout → ℕ → ℕ × ℕ
 step_at p k = slice_index_or p.steps k (0, 0)
 
+abbrev pub run_at : Layout → ℕ → Run
+run_at p s = slice_index_or p.runs s (record { from = 0; count = 0 })
+
 -- where the steps of state s begin
 abbrev pub from : Layout → ℕ → ℕ
-from p s = slice_index p.first s
+from p s = (run_at p s).from
 
 -- how many they are
 abbrev pub many : Layout → ℕ → ℕ
-many p s = slice_index p.counts s
+many p s = (run_at p s).count
 
 -- the steps at n places from place i on
 abbrev pub run : Layout → ℕ → ℕ → List (ℕ × ℕ)
@@ -39,8 +43,7 @@ pub record SameSteps (m n : Meaning) : Type 0 where
 -- p holds the states of m, and the ends and steps of those below s
 pub record LaidOut (m : Meaning) (s : ℕ) (p : Layout) : Type 0 where
   pub ends_size : length p.ends ≡ 256
-  pub first_size : length p.first ≡ 256
-  pub counts_size : length p.counts ≡ 256
+  pub runs_size : length p.runs ≡ 256
   pub steps_size : length p.steps ≡ 2048
   pub states : p.states ≡ m.count
   pub room : p.used ≤ 2048
@@ -55,6 +58,6 @@ pub record Laying (m : Meaning) (s i k : ℕ) (table : Reach) (p : Layout) : Typ
   pub seen : Reached (λ u. u) (take k (m.steps s)) table
   pub steps : SameListed (take k (m.steps s)) (run p i (p.used - i))
 
--- all of m, where there is room
-abbrev pub Lays : Meaning → Bool → Layout → Type 0
-Lays m fits p = fits ≡ true → LaidOut m m.count p
+-- one step more
+abbrev pub pushed : Layout → ℕ × ℕ → Layout
+pushed p x = record { states = p.states; ends = p.ends; runs = p.runs; steps = slice_set p.steps p.used x; used = p.used + 1 }

@@ -1,6 +1,7 @@
 -- The splits of a round, linked by the class that they split.
-use Rattle.std.specs.Prelude.{◌≡◌, ℕ, ◌+◌, ◌<◌, ◌≤◌, List, length, ◌≢◌, slice_index, slice_index_or}
+use Rattle.std.specs.Prelude.{◌≡◌, ℕ, ◌+◌, ◌<◌, ◌≤◌, List, length, replicate, Some, None, Option, ◌≢◌, slice_index_or, slice_set}
 use Rattle.comparison.specs.Landing.{unsplit}
+use Rattle.comparison.specs.declared.links.Chain.{Chain}
 use Rattle.comparison.specs.declared.links.Links.{Links}
 use Rattle.comparison.specs.declared.split.Split.{Split}
 
@@ -8,12 +9,17 @@ use Rattle.comparison.specs.declared.split.Split.{Split}
 abbrev pub from_at : List Split → ℕ → ℕ
 from_at splits t = (slice_index_or splits t unsplit).from
 
--- j is the first split of class c from place i on, or 256 where there is none
+-- j is the first split of class c from place i on
 pub record Jump (splits : List Split) (made c i j : ℕ) : Type 0 where
   pub on : i ≤ j
-  pub far : made ≤ j → j ≡ 256
-  pub quiet : (t : ℕ) → i ≤ t → t < j → t < made → from_at splits t ≢ c
-  pub stop : j < made → from_at splits j ≡ c
+  pub inside : j < made
+  pub of : from_at splits j ≡ c
+  pub quiet : (t : ℕ) → i ≤ t → t < j → from_at splits t ≢ c
+
+-- that split, or none where there is none
+abbrev pub Next : List Split → ℕ → ℕ → ℕ → Option ℕ → Type 0
+Next splits made c i None = (t : ℕ) → i ≤ t → t < made → from_at splits t ≢ c
+Next splits made c i (Some j) = Jump splits made c i j
 
 -- l is the last split of class c
 pub record Latest (splits : List Split) (made c l : ℕ) : Type 0 where
@@ -21,13 +27,32 @@ pub record Latest (splits : List Split) (made c l : ℕ) : Type 0 where
   pub of : from_at splits l ≡ c
   pub quiet : (t : ℕ) → l < t → t < made → from_at splits t ≢ c
 
--- each class has its first and its last split, and each split the next one of its class; split t splits a class that
--- was there before it, and makes class first + t
-pub record Linked (first : ℕ) (splits : List Split) (made : ℕ) (x : Links) : Type 0 where
-  pub heads_size : length x.heads ≡ 256
+-- the first and the last split of class c, or none where there is none
+abbrev pub Chained : List Split → ℕ → ℕ → Option Chain → Type 0
+Chained splits made c None = Next splits made c 0 None
+Chained splits made c (Some x) = Jump splits made c 0 x.first × Latest splits made c x.last
+
+-- where a chain begins
+abbrev pub begun : Option Chain → Option ℕ
+begun None = None
+begun (Some x) = Some x.first
+
+-- no split yet
+abbrev pub unlinked : Links
+unlinked = record { splits = replicate 256 unsplit; made = 0; chains = replicate 256 None; nexts = replicate 256 None }
+
+-- one split more
+abbrev pub pushed : Links → Split → List (Option Chain) → List (Option ℕ) → Links
+pushed x y chains nexts = record { splits = slice_set x.splits x.made y; made = x.made + 1; chains = chains; nexts = nexts }
+
+-- split t splits a class that was there before it, and makes class first + t
+abbrev pub Born : ℕ → Links → Type 0
+Born first x = (t : ℕ) → t < x.made → from_at x.splits t < first + t
+
+-- each class has its chain, and each split the next one of its class
+pub record Linked (x : Links) : Type 0 where
+  pub splits_size : length x.splits ≡ 256
+  pub chains_size : length x.chains ≡ 256
   pub nexts_size : length x.nexts ≡ 256
-  pub lasts_size : length x.lasts ≡ 256
-  pub born : (t : ℕ) → t < made → from_at splits t < first + t
-  pub heads : (c : ℕ) → c < 256 → Jump splits made c 0 (slice_index x.heads c)
-  pub nexts : (t : ℕ) → t < made → Jump splits made (from_at splits t) (t + 1) (slice_index x.nexts t)
-  pub lasts : (c : ℕ) → c < 256 → slice_index x.heads c < made → Latest splits made c (slice_index x.lasts c)
+  pub chains : (c : ℕ) → c < 256 → Chained x.splits x.made c (slice_index_or x.chains c None)
+  pub nexts : (t : ℕ) → t < x.made → Next x.splits x.made (from_at x.splits t) (t + 1) (slice_index_or x.nexts t None)

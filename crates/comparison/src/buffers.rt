@@ -5,7 +5,7 @@ ghost use Rattle.comparison.specs.Marks.{written};
 
 use crate::report::Verdict;
 use crate::script::Script;
-use crate::starts::Starts;
+use crate::starts::Apart;
 use formulas::Line;
 
 // Puts the first n of `from` in front of what stands in `to` from place n on.
@@ -18,20 +18,20 @@ pub fn put_front<T: Copy>(from: &[T], n: usize, to: &mut [T])
 }
 
 // The verdict, with its lines left in the buffer.
-pub fn judged(starts: Starts, script: &Script, lines: &mut [Line]) -> Verdict
+pub fn judged(starts: Option<Apart>, script: &Script, lines: &mut [Line]) -> Verdict
     requires { FitsLines starts (written script.now) lines.old }
     ensures verdict { result ≡ told starts }
     ensures lines { lines.new ≡ left_in starts (written script.now) lines.old }
 {
     match starts {
-        Starts::Alike => Verdict::Same,
-        Starts::Apart { line, depth } => {
-            let count = line as usize + 1;
+        None => Verdict::Same,
+        Some(at) => {
+            let count = at.line as usize + 1;
             put_front(&script.lines, count, lines);
             Verdict::Different {
                 lines: count as u16,
-                line,
-                depth,
+                line: at.line,
+                depth: at.depth,
             }
         }
     }

@@ -1,50 +1,47 @@
 // What tells a state from the leader of its class.
-ghost use Rattle.std.specs.Prelude.{◌≡◌, ℕ, ◌<◌, slice_index};
-ghost use Rattle.comparison.specs.Reach.{numbers, weight, Reached};
-ghost use Rattle.comparison.specs.Contrasts.{Contrast};
+ghost use Rattle.comparison.specs.Reach.{numbers, Reached};
+ghost use Rattle.comparison.specs.Contrasts.{Weighs, Contrast};
 
+use crate::draft::Weighed;
 use crate::reach::Reach;
+use crate::round::Round;
 use crate::split::Split;
 use lts::System;
 
-// The split of class `from` by a pair that one of s and its leader reaches and the other does not.
-// The table `here` holds the pairs of s, so many as `pairs`; the leader has `theirs`.
-pub fn contrast<S: System>(
-    system: &S,
-    class: &[u16; 256],
-    s: usize,
-    pairs: usize,
-    from: u16,
-    leader: u16,
-    theirs: usize,
-    here: &mut Reach,
-) -> Option<Split>
-    requires classes { (u : ℕ) → u < (S.meaning system.now).count → slice_index class.now u < 256 }
-    requires reached { Reached (numbers class.now) ((S.meaning system.now).steps s) here.old }
-    requires pairs { pairs ≡ weight (numbers class.now) ((S.meaning system.now).steps s) }
-    requires leads { theirs ≡ weight (numbers class.now) ((S.meaning system.now).steps leader) }
-    ensures { Contrast (S.meaning system.now) (numbers class.now) s leader from result }
-{
-    if pairs == theirs {
-        let Some(_) = here.missing(system, class, leader as usize) else {
-            return None;
-        };
-    }
-    let _ = here.mark(system, class, leader as usize);
-    if let Some((action, into)) = here.missing(system, class, s) {
-        return Some(Split {
+impl<'a, S: System> Round<'a, S> {
+    // The split of class `from` by a pair that one of s and its leader reaches and the other does not.
+    // The table `here` holds the pairs of s.
+    pub fn contrast(
+        &self,
+        s: Weighed,
+        leader: Weighed,
+        from: u16,
+        here: &mut Reach,
+    ) -> Option<Split>
+        requires reached { Reached (numbers self.now.before.now.class) ((S.meaning self.now.system.now).steps s.state) here.old }
+        requires pairs { Weighs (S.meaning self.now.system.now) (numbers self.now.before.now.class) s }
+        requires leads { Weighs (S.meaning self.now.system.now) (numbers self.now.before.now.class) leader }
+        ensures { Contrast (S.meaning self.now.system.now) (numbers self.now.before.now.class) s leader from result }
+    {
+        if s.weight == leader.weight {
+            let _ = here.missing(self, leader.state as usize)?;
+        }
+        let _ = here.mark(self, leader.state as usize);
+        if let Some((action, into)) = here.missing(self, s.state as usize) {
+            return Some(Split {
+                from,
+                action,
+                into,
+                side: true,
+            });
+        }
+        let _ = here.mark(self, s.state as usize);
+        let (action, into) = here.missing(self, leader.state as usize)?;
+        Some(Split {
             from,
             action,
             into,
-            side: true,
-        });
+            side: false,
+        })
     }
-    let _ = here.mark(system, class, s);
-    let (action, into) = here.missing(system, class, leader as usize)?;
-    Some(Split {
-        from,
-        action,
-        into,
-        side: false,
-    })
 }

@@ -9,10 +9,16 @@ use crate::script::Script;
 use formulas::Line;
 use lts::System;
 
-// Class 0 has the states that are like the start, class 1 the others. The second answer is how many
-// classes there are.
-fn end_classes<S: System>(system: &S) -> ([u16; 256], usize)
-    ensures { Ended (S.meaning system.now) (S.meaning system.now).count result.0 result.1 }
+// The class of each state, and how many classes there are.
+#[derive(Clone, Copy)]
+struct Ends {
+    class: [u16; 256],
+    count: usize,
+}
+
+// Class 0 has the states that are like the start, class 1 the others.
+fn end_classes<S: System>(system: &S) -> Ends
+    ensures { Ended (S.meaning system.now) (S.meaning system.now).count result.class result.count }
 {
     let start = system.is_end(0);
     let mut class = [0; 256];
@@ -25,7 +31,7 @@ fn end_classes<S: System>(system: &S) -> ([u16; 256], usize)
             count = 2;
         }
     }
-    (class, count)
+    Ends { class, count }
 }
 
 // The classes of round 0, with the first lines.
@@ -33,7 +39,7 @@ pub fn by_ends<S: System>(system: &S, script: &mut Script) -> Partition
     requires { written script.old ≡ [] }
     ensures { Standing (S.meaning system.now) 0 (written script.new) result }
 {
-    let (class, count) = end_classes(system);
+    let Ends { class, count } = end_classes(system);
     if count == 1 {
         let all = script.push(Line::True);
         return Partition {

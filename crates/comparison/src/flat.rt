@@ -33,13 +33,13 @@ impl<'a> System for Flat<'a> {
         if s >= self.of.states {
             return 0;
         }
-        self.of.counts[s] as usize
+        self.of.runs[s].count as usize
     }
 
     fn step(&self, s: usize, k: usize) -> Option<(u8, u8)> {
         if k >= self.step_count(s) {
             return None;
         }
-        Some(self.of.steps[self.of.first[s] as usize + k])
+        Some(self.of.steps[self.of.runs[s].from as usize + k])
     }
 }

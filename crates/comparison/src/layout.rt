@@ -1,74 +1,89 @@
 // Both procedures laid out flat, each step once, so that the rounds ask their sources no more.
-ghost use Rattle.std.specs.Prelude.{◌≡◌, ◌+◌, ◌<◌, ◌≤◌, true};
-ghost use Rattle.comparison.specs.Layouts.{LaidOut, Lays};
+ghost use Rattle.std.specs.Prelude.{◌≡◌, ◌+◌, ◌<◌, ◌≤◌, length, IfSome};
+ghost use Rattle.comparison.specs.Layouts.{pushed, LaidOut};
 
 use crate::reach::Reach;
 use lts::System;
 
 const PLACES: usize = 2048;
 
+// Where the steps of a state begin, and how many they are.
+#[derive(Clone, Copy)]
+pub struct Run {
+    pub from: u16,
+    pub count: u16,
+}
+
 #[derive(Drop)]
 pub struct Layout {
     pub states: usize,
     pub ends: [bool; 256],
-    // Where the steps of each state begin, and how many they are.
-    pub first: [u16; 256],
-    pub counts: [u16; 256],
+    pub runs: [Run; 256],
     // Action and target of each step.
     pub steps: [(u8, u8); 2048],
     pub used: usize,
 }
 
-// Lays out state s behind the states below it; false where there is no room.
-fn lay_state<S: System>(system: &S, s: usize, seen: &mut Reach, to: &mut Layout) -> bool
-    requires state { s < (S.meaning system.now).count }
-    requires laid { LaidOut (S.meaning system.now) s to.old }
-    ensures { result ≡ true → LaidOut (S.meaning system.now) (s + 1) to.new }
-{
-    let from = to.used;
-    seen.clear();
-    for k in 0..system.step_count(s) {
-        if let Some((action, target)) = system.step(s, k) {
-            if seen.put(action, target as u16) {
-                if to.used == PLACES {
-                    return false;
-                }
-                to.steps[to.used] = (action, target);
-                to.used += 1;
-            }
-        }
-    }
-    to.ends[s] = system.is_end(s);
-    to.first[s] = from as u16;
-    to.counts[s] = (to.used - from) as u16;
-    true
-}
-
 impl Layout {
     // So many states, none laid out yet.
-    pub fn bare<S: System>(system: &S) -> Layout
+    fn bare<S: System>(system: &S) -> Layout
         ensures { LaidOut (S.meaning system.now) 0 result }
     {
         Layout {
             states: system.states(),
             ends: [false; 256],
-            first: [0; 256],
-            counts: [0; 256],
+            runs: [Run { from: 0, count: 0 }; 256],
             steps: [(0, 0); 2048],
             used: 0,
         }
     }
-}
 
-// Lays out all states; false where there is no room.
-pub fn lay_out<S: System>(system: &S, seen: &mut Reach, to: &mut Layout) -> bool
-    requires { LaidOut (S.meaning system.now) 0 to.old }
-    ensures { Lays (S.meaning system.now) result to.new }
-{
-    for s in 0..system.states() {
-        if !lay_state(system, s, seen, to) {
-            return false;
+    // One step more, where there is room.
+    fn push(&mut self, action: u8, target: u8) -> Option<()>
+        requires size { length self.old.steps ≡ 2048 }
+        requires room { self.old.used ≤ 2048 }
+        ensures room { IfSome result (λ _. self.old.used < 2048) }
+        ensures pushed { IfSome result (λ _. self.new ≡ pushed self.old (action, target)) }
+    {
+        if self.used == PLACES {
+            return None;
         }
+        self.steps[self.used] = (action, target);
+        self.used += 1;
+        Some(())
     }
-    true
+
+    // Lays out state s behind the states below it, where there is room.
+    fn lay<S: System>(&mut self, system: &S, s: usize, seen: &mut Reach) -> Option<()>
+        requires state { s < (S.meaning system.now).count }
+        requires laid { LaidOut (S.meaning system.now) s self.old }
+        ensures { IfSome result (λ _. LaidOut (S.meaning system.now) (s + 1) self.new) }
+    {
+        let from = self.used;
+        seen.clear();
+        for k in 0..system.step_count(s) {
+            if let Some((action, target)) = system.step(s, k) {
+                if seen.put(action, target as u16) {
+                    self.push(action, target)?;
+                }
+            }
+        }
+        self.ends[s] = system.is_end(s);
+        self.runs[s] = Run {
+            from: from as u16,
+            count: (self.used - from) as u16,
+        };
+        Some(())
+    }
+
+    // All states, where there is room.
+    pub fn of<S: System>(system: &S, seen: &mut Reach) -> Option<Layout>
+        ensures { IfSome result (λ p. LaidOut (S.meaning system.now) (S.meaning system.now).count p) }
+    {
+        let mut layout = Layout::bare(system);
+        for s in 0..system.states() {
+            layout.lay(system, s, seen)?;
+        }
+        Some(layout)
+    }
 }

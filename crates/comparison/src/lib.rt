@@ -16,6 +16,7 @@ mod outcome;
 mod partition;
 mod reach;
 pub mod report;
+mod round;
 mod rounds;
 mod script;
 mod settling;

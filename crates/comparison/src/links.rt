@@ -1,77 +1,99 @@
 // The splits of a round linked by the class that they split, so that a state follows only those of its own class.
-ghost use Rattle.std.specs.Prelude.{◌≡◌, ℕ, ◌+◌, ◌<◌, ◌≤◌, List, length, slice_set};
-ghost use Rattle.comparison.specs.declared.split.Split.{Split as Split'};
+ghost use Rattle.std.specs.Prelude.{◌≡◌, ◌+◌, ◌<◌, ◌≤◌, length, None, slice_index_or};
 ghost use Rattle.comparison.specs.Reach.{holds};
 ghost use Rattle.comparison.specs.Landing.{sent, Drawn};
-ghost use Rattle.comparison.specs.Links.{Linked};
+ghost use Rattle.comparison.specs.Links.{begun, unlinked, pushed, Born, Linked};
 
-use crate::draft::Draft;
 use crate::reach::Reach;
+use crate::split::Split;
 
-// No split.
-const NONE: u16 = 256;
+// The first and the last split of a class.
+#[derive(Clone, Copy)]
+pub struct Chain {
+    pub first: u16,
+    pub last: u16,
+}
 
 #[derive(Drop)]
 pub struct Links {
-    // The first and the last split of each class.
-    pub heads: [u16; 256],
-    pub lasts: [u16; 256],
+    // The splits so far, in their order.
+    pub splits: [Split; 256],
+    pub made: usize,
+    // Those of each class that has any.
+    pub chains: [Option<Chain>; 256],
     // The next split of the same class, for each split.
-    pub nexts: [u16; 256],
+    pub nexts: [Option<u16>; 256],
 }
 
 impl Links {
     // No split yet.
     pub fn new() -> Links
-        ensures { (first : ℕ) (splits : List Split') → Linked first splits 0 result }
+        ensures { result ≡ unlinked }
     {
         Links {
-            heads: [NONE; 256],
-            lasts: [NONE; 256],
-            nexts: [NONE; 256],
+            splits: [Split {
+                from: 0,
+                action: 0,
+                into: 0,
+                side: false,
+            }; 256],
+            made: 0,
+            chains: [None; 256],
+            nexts: [None; 256],
         }
     }
 
-    // The draft's next split will be of class c.
-    pub fn add(&mut self, draft: &Draft, first: usize, c: u16)
-        requires linked { Linked first draft.now.splits draft.now.made self.old }
-        requires size { length draft.now.splits ≡ 256 }
-        requires room { draft.now.made < 256 }
+    // The first split of class c.
+    fn first(&self, c: u16) -> Option<u16>
+        requires size { length self.now.chains ≡ 256 }
         requires low { c < 256 }
-        requires born { c < first + draft.now.made }
-        ensures { (z : Split') → z.from ≡ c → Linked first (slice_set draft.now.splits draft.now.made z) (draft.now.made + 1) self.new }
+        ensures { result ≡ begun (slice_index_or self.now.chains c None) }
     {
-        let made = draft.made as u16;
-        if self.heads[c as usize] == NONE {
-            self.heads[c as usize] = made;
-        } else {
-            let last = self.lasts[c as usize];
-            self.nexts[last as usize] = made;
-        }
-        self.nexts[made as usize] = NONE;
-        self.lasts[c as usize] = made;
+        self.chains[c as usize].map(|chain| chain.first)
+    }
+
+    // One split more, linked behind the last one of its class.
+    pub fn push(&mut self, split: Split)
+        requires linked { Linked self.old }
+        requires room { self.old.made < 256 }
+        requires low { split.from < 256 }
+        ensures pushed { self.new ≡ pushed self.old split self.new.chains self.new.nexts }
+        ensures linked { Linked self.new }
+    {
+        let made = self.made as u16;
+        let first = match self.chains[split.from as usize] {
+            None => made,
+            Some(chain) => {
+                self.nexts[chain.last as usize] = Some(made);
+                chain.first
+            }
+        };
+        self.chains[split.from as usize] = Some(Chain { first, last: made });
+        self.nexts[self.made] = None;
+        self.splits[self.made] = split;
+        self.made += 1;
     }
 
     // Where the splits so far send a state of class `from` whose pairs the table holds; the first split made
     // class `first`.
-    pub fn sent(&self, draft: &Draft, from: u16, first: usize, here: &Reach) -> u16
-        requires linked { Linked first draft.now.splits draft.now.made self.now }
-        requires size { length draft.now.splits ≡ 256 }
-        requires room { first + draft.now.made ≤ 256 }
+    pub fn sent(&self, from: u16, first: usize, here: &Reach) -> u16
+        requires linked { Linked self.now }
+        requires born { Born first self.now }
+        requires room { first + self.now.made ≤ 256 }
         requires low { from < 256 }
-        requires drawn { Drawn draft.now.splits draft.now.made }
-        ensures { result ≡ sent (holds here.now) draft.now.splits first from draft.now.made }
+        requires drawn { Drawn self.now.splits self.now.made }
+        ensures { result ≡ sent (holds here.now) self.now.splits first from self.now.made }
     {
         let mut class = from;
-        let mut j = self.heads[from as usize] as usize;
-        while j < draft.made {
-            let split = draft.splits[j];
-            if here.has(split.action, split.into) == split.side {
-                class = (first + j) as u16;
-                j = self.heads[class as usize] as usize;
+        let mut next = self.first(from);
+        while let Some(j) = next {
+            let split = self.splits[j as usize];
+            next = if here.has(split.action, split.into) == split.side {
+                class = (first + j as usize) as u16;
+                self.first(class)
             } else {
-                j = self.nexts[j] as usize;
-            }
+                self.nexts[j as usize]
+            };
         }
         class
     }

@@ -5,19 +5,20 @@ ghost use Rattle.comparison.specs.Outcomes.{Compares};
 
 use crate::ends::by_ends;
 use crate::flat::Flat;
-use crate::layout::{Layout, lay_out};
+use crate::layout::Layout;
 use crate::partition::Partition;
 use crate::reach::Reach;
-use crate::rounds::refined;
+use crate::round::Round;
 use crate::script::Script;
-use crate::starts::Starts;
+use crate::starts::{Apart, watch};
 use lts::System;
 
 #[derive(Clone, Copy)]
 pub struct Outcome {
     pub classes: Partition,
     pub rounds: usize,
-    pub starts: Starts,
+    // The first round that told the starts apart.
+    pub starts: Option<Apart>,
 }
 
 // Round after round, up to the first that changes nothing.
@@ -34,10 +35,15 @@ fn refine_all<S: System>(
     ensures { Compares (S.meaning system.now) right (written script.new) result }
 {
     let mut classes = by_ends(system, script);
-    let mut starts = Starts::Alike;
+    let mut starts = None;
     for k in 0..most {
-        starts = starts.watch(&classes, k, right);
-        let next = refined(system, k, &classes, here, script);
+        starts = watch(starts, &classes, k, right);
+        let round = Round {
+            system,
+            k,
+            before: &classes,
+        };
+        let next = round.refined(here, script);
         if next.count == classes.count {
             return Outcome {
                 classes,
@@ -59,10 +65,11 @@ pub fn compared<S: System>(system: &S, right: usize, most: usize, script: &mut S
     ensures { Compares (S.meaning system.now) right (written script.new) result }
 {
     let mut here = Reach::new();
-    let mut layout = Layout::bare(system);
-    if lay_out(system, &mut here, &mut layout) {
-        let flat = Flat { of: &layout };
-        return refine_all(&flat, right, most, &mut here, script);
+    match Layout::of(system, &mut here) {
+        Some(layout) => {
+            let flat = Flat { of: &layout };
+            refine_all(&flat, right, most, &mut here, script)
+        }
+        None => refine_all(system, right, most, &mut here, script),
     }
-    refine_all(system, right, most, &mut here, script)
 }

@@ -4,40 +4,23 @@ ghost use Rattle.comparison.specs.Marks.{written, Kept};
 ghost use Rattle.comparison.specs.Standing.{Standing};
 
 use crate::draft::Draft;
-use crate::links::Links;
 use crate::partition::Partition;
 use crate::reach::Reach;
+use crate::round::Round;
 use crate::script::Script;
-use crate::settling::settle;
 use lts::System;
 
-// The classes of round k + 1, from those of round k.
-pub fn refined<S: System>(
-    system: &S,
-    k: usize,
-    old: &Partition,
-    here: &mut Reach,
-    script: &mut Script,
-) -> Partition
-    requires { Standing (S.meaning system.now) k (written script.old) old.now }
-    ensures standing { Standing (S.meaning system.now) (k + 1) (written script.new) result }
-    ensures kept { Kept (written script.old) (written script.new) }
-{
-    let mut draft = Draft::new(old);
-    let mut weights = [0; 256];
-    let mut links = Links::new();
-    for s in 0..system.states() {
-        settle(
-            system,
-            k,
-            s,
-            old,
-            &mut draft,
-            here,
-            &mut weights,
-            &mut links,
-            script,
-        );
+impl<'a, S: System> Round<'a, S> {
+    // The classes of round k + 1. The table and the lines outlive a round, so they are lent to it.
+    pub fn refined(&self, here: &mut Reach, script: &mut Script) -> Partition
+        requires { Standing (S.meaning self.now.system.now) self.now.k (written script.old) self.now.before.now }
+        ensures standing { Standing (S.meaning self.now.system.now) (self.now.k + 1) (written script.new) result }
+        ensures kept { Kept (written script.old) (written script.new) }
+    {
+        let mut draft = Draft::new(self.before);
+        for s in 0..self.system.states() {
+            self.settle(s, &mut draft, here, script);
+        }
+        draft.next
     }
-    draft.next
 }

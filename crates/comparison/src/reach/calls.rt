@@ -1,8 +1,9 @@
 // How the table is filled and asked.
-ghost use Rattle.std.specs.Prelude.{◌≡◌, ℕ, ◌<◌, ◌≤◌, slice_index};
+ghost use Rattle.std.specs.Prelude.{◌≡◌, ◌<◌, ◌≤◌};
 ghost use Rattle.comparison.specs.Reach.{holds, weight, numbers, Cleared, Put, Reached, Missing};
 
 use crate::reach::Reach;
+use crate::round::Round;
 use lts::System;
 
 impl Reach {
@@ -45,16 +46,15 @@ impl Reach {
     }
 
     // Holds just the pairs that state t reaches, and answers their number.
-    pub fn mark<S: System>(&mut self, system: &S, class: &[u16; 256], t: usize) -> usize
-        requires { (u : ℕ) → u < (S.meaning system.now).count → slice_index class.now u < 256 }
-        ensures reached { Reached (numbers class.now) ((S.meaning system.now).steps t) self.new }
-        ensures weighed { result ≡ weight (numbers class.now) ((S.meaning system.now).steps t) }
+    pub fn mark<S: System>(&mut self, round: &Round<'_, S>, t: usize) -> usize
+        ensures reached { Reached (numbers round.now.before.now.class) ((S.meaning round.now.system.now).steps t) self.new }
+        ensures weighed { result ≡ weight (numbers round.now.before.now.class) ((S.meaning round.now.system.now).steps t) }
     {
         self.clear();
         let mut pairs = 0;
-        for k in 0..system.step_count(t) {
-            if let Some((action, target)) = system.step(t, k) {
-                if self.put(action, class[target as usize]) {
+        for k in 0..round.system.step_count(t) {
+            if let Some((action, target)) = round.system.step(t, k) {
+                if self.put(action, round.before.class[target as usize]) {
                     pairs += 1;
                 }
             }
@@ -63,13 +63,12 @@ impl Reach {
     }
 
     // The first pair that state t reaches and that is not held.
-    pub fn missing<S: System>(&self, system: &S, class: &[u16; 256], t: usize) -> Option<(u8, u16)>
-        requires { (u : ℕ) → u < (S.meaning system.now).count → slice_index class.now u < 256 }
-        ensures { Missing (numbers class.now) ((S.meaning system.now).steps t) self.now result }
+    pub fn missing<S: System>(&self, round: &Round<'_, S>, t: usize) -> Option<(u8, u16)>
+        ensures { Missing (numbers round.now.before.now.class) ((S.meaning round.now.system.now).steps t) self.now result }
     {
-        for k in 0..system.step_count(t) {
-            if let Some((action, target)) = system.step(t, k) {
-                let into = class[target as usize];
+        for k in 0..round.system.step_count(t) {
+            if let Some((action, target)) = round.system.step(t, k) {
+                let into = round.before.class[target as usize];
                 if !self.has(action, into) {
                     return Some((action, into));
                 }

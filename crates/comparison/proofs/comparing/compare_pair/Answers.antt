@@ -1,16 +1,8 @@
 use Rattle.std.proofs.Common.{◌+◌, ◌-◌, ◌*◌, ◌≤◌, length, arith, rules}
 use Rattle.lts.specs.Laws.Most.{narrow}
 use Rattle.comparison.specs.Marks.{written}
-use Rattle.comparison.proofs.Reporting.{start_inside, counts_low, fits_lines, reported_as}
+use Rattle.comparison.proofs.Reporting.{counts_low, fits_lines, reported_as}
 use Rattle.comparison.proofs.comparing.compare_pair.Goals as goal
-
-pub compared-found-requires : goal.compared-found-requires
-compared-found-requires g c =
-    let p = g.L.System.meaning c.args.system.now.left.now in
-    let q = g.R.System.meaning c.args.system.now.right.now in
-    let law_p = narrow (g.met.L.Source.fits c.args.system.now.left.now) g.L.Source.bounded (g.met.L.System.lawful c.args.system.now.left.now) in
-    let law_q = narrow (g.met.R.Source.fits c.args.system.now.right.now) g.R.Source.bounded (g.met.R.System.lawful c.args.system.now.right.now) in
-    record { few = (let l = g.met.L.Source.fits c.args.system.now.left.now in let r = g.met.R.Source.fits c.args.system.now.right.now in let x = c.MOST.result.tied in let y = c.MOST-2.result.tied in omega arith); inside = start_inside p q law_p law_q c.states-start.result c.states-start.ensures; empty = c.new-script.ensures }
 
 pub judged-verdict-requires : goal.judged-verdict-requires
 judged-verdict-requires g c =

@@ -8,8 +8,8 @@ pub invariant_of-flat : goal.invariant_of-flat
 invariant_of-flat g c =
     let m = g.S.System.meaning c.args.system.now in
     let law = g.met.S.System.lawful c.args.system.now in
-    let p = c.lay_out.new.to in
-    let h = c.lay_out.ensures c.if-lay_out.true in
+    let p = c.in-Some.layout in
+    let h = c.in-Some.ensures in
     let n = h.states in
     let some = law.some in
     let few = law.few in
@@ -21,16 +21,10 @@ invariant_of-flat g c =
       aims = laid_aims m law p h;
     }
 
-pub refine_all-requires : goal.refine_all-requires
-refine_all-requires g c =
-    let h = c.lay_out.ensures c.if-lay_out.true in
-    let n = h.states in
-    record { few = omega (arith, c.requires.few); inside = omega (arith, c.requires.inside); empty = c.requires.empty }
-
-pub returns-then-lay_out : goal.returns-then-lay_out
-returns-then-lay_out g c =
+pub returns-in-Some : goal.returns-in-Some
+returns-in-Some g c =
     let m = g.S.System.meaning c.args.system.now in
     let law = g.met.S.System.lawful c.args.system.now in
-    let p = c.lay_out.new.to in
-    let h = c.lay_out.ensures c.if-lay_out.true in
+    let p = c.in-Some.layout in
+    let h = c.in-Some.ensures in
     compares_same (laid p) m (laid_same m law p h) c.args.right (written c.refine_all.new.script) c.refine_all.result c.refine_all.ensures

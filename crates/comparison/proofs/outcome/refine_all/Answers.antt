@@ -1,37 +1,39 @@
-use Rattle.std.proofs.Common.{◌+◌, sym, subst, arith}
+use Rattle.std.proofs.Common.{◌+◌, Option, sym, subst, arith}
 use Rattle.comparison.specs.Found.{Found}
 use Rattle.comparison.specs.Marks.{written}
 use Rattle.comparison.specs.Outcomes.{Compares}
-use Rattle.comparison.specs.declared.starts.Starts.{Starts}
-use Rattle.comparison.proofs.Ending.{standing_few, start_low, goes_on, ends_here}
+use Rattle.comparison.specs.declared.starts.Apart.{Apart}
+use Rattle.comparison.proofs.Ending.{standing_few, classes_low, goes_on, ends_here}
 use Rattle.comparison.proofs.outcome.refine_all.Goals as goal
 
-pub watch-starts-requires : goal.watch-starts-requires
-watch-starts-requires g c =
+pub watch-starts-requires-clause-class : goal.watch-starts-requires-clause-class
+watch-starts-requires-clause-class g c =
+    let law = g.met.S.System.lawful c.args.system.now in
+    classes_low (g.S.System.meaning c.args.system.now) law c.loop-k.k (written c.loop-k.script) c.loop-k.classes c.loop-k.invariant.standing (omega arith) 0 law.some
+
+pub watch-starts-requires-clause-round : goal.watch-starts-requires-clause-round
+watch-starts-requires-clause-round g c =
     let m = g.S.System.meaning c.args.system.now in
     let law = g.met.S.System.lawful c.args.system.now in
-    let h = c.loop-k.invariant.0 in
-    let few = standing_few m law c.loop-k.k (written c.loop-k.script) c.loop-k.classes h in
-    let start = start_low m law c.loop-k.k (written c.loop-k.script) c.loop-k.classes h in
+    let few = standing_few m law c.loop-k.k (written c.loop-k.script) c.loop-k.classes c.loop-k.invariant.standing in
     let states = law.few in
-    let low = c.loop-k.invariant.3 in
-    let inside = c.requires.inside in
-    record { sized = h.based.class_size; marks = h.based.marks_size; class = omega arith; round = omega arith; right = omega arith }
+    let low = c.loop-k.invariant.low in
+    omega arith
 
 pub returns-then-next-classes : goal.returns-then-next-classes
 returns-then-next-classes g c =
     let m = g.S.System.meaning c.args.system.now in
     let law = g.met.S.System.lawful c.args.system.now in
     let inv = c.loop-k.invariant in
-    let done = ends_here m law c.loop-k.k (written c.loop-k.script) c.loop-k.classes inv.0 (written c.refined-next.new.script) c.refined-next.result c.refined-next.ensures.standing c.args.right c.requires.inside c.refined-next.ensures.kept c.loop-k.starts inv.1 inv.2 inv.3 c.if-next-classes.true in
-    subst (λ (t : Starts). Compares m c.args.right (written c.refined-next.new.script) (record { classes = c.loop-k.classes; rounds = c.loop-k.k; starts = t })) (sym c.watch-starts.ensures) done
+    let done = ends_here m law c.loop-k.k (written c.loop-k.script) c.loop-k.classes inv.standing (written c.refined-next.new.script) c.refined-next.result c.refined-next.ensures.standing c.args.right c.requires.inside c.refined-next.ensures.kept c.loop-k.starts inv.found inv.unstable inv.low c.if-next-classes.true in
+    subst (λ (t : Option Apart). Compares m c.args.right (written c.refined-next.new.script) (record { classes = c.loop-k.classes; rounds = c.loop-k.k; starts = t })) (sym c.watch-starts.ensures) done
 
 pub unreachable-requires : goal.unreachable-requires
 unreachable-requires g c =
     let m = g.S.System.meaning c.args.system.now in
     let law = g.met.S.System.lawful c.args.system.now in
-    let few = standing_few m law c.loop-k.k (written c.loop-k.script) c.loop-k.classes c.loop-k.invariant.0 in
-    let low = c.loop-k.invariant.3 in
+    let few = standing_few m law c.loop-k.k (written c.loop-k.script) c.loop-k.classes c.loop-k.invariant.standing in
+    let low = c.loop-k.invariant.low in
     let all = c.requires.few in
     omega (arith, c.loop-k-test.false)
 
@@ -40,5 +42,11 @@ loop-k-preserved g c =
     let m = g.S.System.meaning c.args.system.now in
     let law = g.met.S.System.lawful c.args.system.now in
     let inv = c.loop-k.invariant in
-    let on = goes_on m law c.loop-k.k (written c.loop-k.script) c.loop-k.classes inv.0 (written c.refined-next.new.script) c.refined-next.result c.refined-next.ensures.standing c.args.right c.requires.inside c.refined-next.ensures.kept c.loop-k.starts inv.1 inv.2 inv.3 c.if-next-classes.false in
-    (c.refined-next.ensures.standing, subst (λ (t : Starts). Found m c.args.right (written c.refined-next.new.script) (c.loop-k.k + 1) t) (sym c.watch-starts.ensures) on.0, on.1, on.2)
+    let on = goes_on m law c.loop-k.k (written c.loop-k.script) c.loop-k.classes inv.standing (written c.refined-next.new.script) c.refined-next.result c.refined-next.ensures.standing c.args.right c.requires.inside c.refined-next.ensures.kept c.loop-k.starts inv.found inv.unstable inv.low c.if-next-classes.false in
+    record { standing = c.refined-next.ensures.standing; found = subst (Found m c.args.right (written c.refined-next.new.script) (c.loop-k.k + 1)) (sym c.watch-starts.ensures) on.0; unstable = on.1; low = on.2 }
+
+pub invariant_of-round : goal.invariant_of-round
+invariant_of-round g c =
+    let m = g.S.System.meaning c.args.system.now in
+    let law = g.met.S.System.lawful c.args.system.now in
+    record { low = classes_low m law c.loop-k.k (written c.loop-k.script) c.loop-k.classes c.loop-k.invariant.standing (omega arith) }

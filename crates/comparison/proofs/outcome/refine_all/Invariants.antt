@@ -7,4 +7,4 @@ use Rattle.comparison.proofs.outcome.refine_all.Given as goal
 
 abbrev pub invariant-loop-k : goal.invariant-loop-k
 invariant-loop-k g l =
-    Standing (g.S.System.meaning l.system) l.k (written l.script) l.classes × Found (g.S.System.meaning l.system) l.right (written l.script) l.k l.starts × Unstable (g.S.System.meaning l.system) l.k × (l.k < l.classes.count)
+    record { standing : Standing (g.S.System.meaning l.system) l.k (written l.script) l.classes; found : Found (g.S.System.meaning l.system) l.right (written l.script) l.k l.starts; unstable : Unstable (g.S.System.meaning l.system) l.k; low : l.k < l.classes.count }

@@ -1,11 +1,6 @@
-use Rattle.std.proofs.Common.{sym, arith, rules}
-use Rattle.std.proofs.lemmas.Option.{slice_get_past}
-use Rattle.comparison.specs.Layouts.{laid}
+use Rattle.std.proofs.Common.{arith, rules}
 use Rattle.comparison.proofs.Reading.{placed, step_inside}
 use Rattle.comparison.proofs.flat.FlatSystem.step.Goals as goal
-
-pub returns-then-k-step_count : goal.returns-then-k-step_count
-returns-then-k-step_count c = sym (slice_get_past ((laid c.args.self.now.of.now).steps c.args.s) c.args.k (omega (arith, c.step_count.ensures)))
 
 pub overflow_add-result : goal.overflow_add-result
 overflow_add-result c =

@@ -4,4 +4,4 @@ use Rattle.comparison.proofs.reach.Reach.mark.Given as goal
 
 abbrev pub invariant-loop-k : goal.invariant-loop-k
 invariant-loop-k g l =
-    Reached (numbers l.class) (take l.k ((g.S.System.meaning l.system).steps l.t)) l.self × (l.pairs ≡ total l.self)
+    record { reached : Reached (numbers l.round.before.now.class) (take l.k ((g.S.System.meaning l.round.system.now).steps l.t)) l.self; counted : l.pairs ≡ total l.self }

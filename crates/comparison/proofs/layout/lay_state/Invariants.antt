@@ -1,5 +1,0 @@
-use Rattle.comparison.specs.Layouts.{Laying}
-use Rattle.comparison.proofs.layout.lay_state.Given as goal
-
-abbrev pub invariant-loop-k : goal.invariant-loop-k
-invariant-loop-k g l = Laying (g.S.System.meaning l.system) l.s l.from l.k l.seen l.to
