@@ -1,8 +1,8 @@
 -- What a term answers of a state, from the state's run.
-use Rattle.std.proofs.Common.{◌≡◌, ℕ, zero, suc, ◌+◌, ◌<◌, ◌≤◌, Bool, false, eqb, List, ◌∷◌, length, get_or, take, drop, is_some, IsSome, Some, None, Option, MatchOption, sym, refl, ap, ◌∙◌, arith, length-append}
+use Rattle.std.proofs.Common.{◌≡◌, ℕ, zero, suc, ◌+◌, ◌<◌, ◌≤◌, Bool, false, eqb, List, ◌∷◌, length, get_or, take, drop, is_some, IsSome, Some, None, Option, MatchOption, sym, refl, ap, ◌∙◌, arith, length-append, Bor, option_copied}
 use Rattle.std.specs.List.{slice_get}
 use Rattle.std.proofs.lemmas.List.{drop_more, get_or-take, length-take-le}
-use Rattle.std.proofs.lemmas.Option.{slice_get-get_or}
+use Rattle.std.proofs.lemmas.Option.{slice_get-get_or, slice_get_past}
 use Rattle.std.proofs.lemmas.Bool.{ne_eqb}
 use Rattle.terms.specs.Syntax.{Tree, leaf, choice, sequence, size, Rest, done, left}
 use Rattle.terms.specs.Graph.{firsts, contents, ended, leads}
@@ -73,6 +73,11 @@ module _ {R : Type 0} (items : R → List (ℕ × ℕ)) (held : Option (Rest Tre
   told_end (Some r) b P t f e = f r e ∙ ap (λ xs. eqb (length xs) 0) t.1 ∙ is_end held t.0
     where
       is_end : (o : Option (Rest Tree)) → IsSome o → eqb (length (leads o)) 0 ≡ ended o
-      is_end None h = let z : ⊥ = cc in absurd z
+      is_end None h = cc
       is_end (Some done) h = refl
       is_end (Some (left x)) h = ne_eqb (length (firsts x)) 0 (λ z. (let f = some_first x in let b : ⊥ = omega arith in b))
+
+-- what was got from a list by its place, copied
+pub copied_get : {X : Type 0} (o : Option (Bor X)) (xs : List X) (k : ℕ) → MatchOption o (length xs ≤ k) (λ x. (k < length xs) × ((d : X) → x.now ≡ get_or xs k d)) → option_copied o ≡ slice_get xs k
+copied_get None xs k h = sym (slice_get_past xs k h)
+copied_get (Some x) xs k h = sym (slice_get-get_or xs k x.now h.0 ∙ ap Some (sym (h.1 x.now)))

@@ -4,7 +4,7 @@ use Rattle.std.specs.List.{slice_get}
 use Rattle.lts.specs.Meaning.{In}
 use Rattle.terms.specs.Syntax.{Tree, size, Numbered, Rest, done, left}
 use Rattle.terms.specs.Graph.{contents, firsts, ended, leads, graph, ByRules}
-use Rattle.terms.specs.Laws.Order.{within_rises, never}
+use Rattle.terms.specs.Laws.Order.{within_rises}
 use Rattle.terms.specs.Laws.Lawful.{leads_within}
 use Rattle.terms.proofs.Steps.{step_of_first, first_of_step, derived, stepped, reached}
 
@@ -15,9 +15,9 @@ leading (Some done) a i h = absurd h
 leading (Some (left x)) a i h = (x, refl, h)
 
 ending : (o : Option (Rest Tree)) → Decides (ended o) (o ≡ Some done)
-ending None = (λ e. never (cc), λ e. never (cc))
+ending None = (λ e. (cc), λ e. (cc))
 ending (Some done) = (λ e. refl, λ e. refl)
-ending (Some (left x)) = (λ e. never (cc), λ e. never (cc))
+ending (Some (left x)) = (λ e. (cc), λ e. (cc))
 
 pub by_rules : (t : Tree) → Numbered 0 t → ByRules t (graph t)
 by_rules t n =

@@ -1,15 +1,13 @@
 -- The end of a text.
-use Rattle.std.proofs.Common.{◌≡◌, ℕ, zero, suc, ◌+◌, ◌≤◌, List, [], length, Some, sym, refl, ap, ◌∙◌, arith}
+use Rattle.std.proofs.Common.{◌≡◌, ℕ, zero, suc, ◌+◌, ◌≤◌, List, [], length, refl, ap, ◌∙◌, arith}
 use Rattle.std.specs.List.{slice_get}
 use Rattle.terms.specs.Syntax.{Tree, size, Numbered}
 use Rattle.terms.specs.Graph.{contents, leads}
 use Rattle.terms.specs.Lists.{run_of, steps_of, Lays}
 use Rattle.terms.specs.Assembly.{past, plus}
 use Rattle.terms.specs.Names.{known, one, stacked}
-use Rattle.terms.specs.Reader.{partial, place, opened, Counted, scanned}
-use Rattle.terms.specs.Scan.{at_end, behind}
+use Rattle.terms.specs.Reader.{partial, place, opened, Counted}
 use Rattle.terms.specs.Table.{at, Joined}
-use Rattle.terms.specs.declared.fault.TermFault.TheVariants.{Early}
 use Rattle.terms.specs.declared.listing.Listing.{Listing}
 use Rattle.terms.specs.declared.nodes.Nodes.{Nodes}
 use Rattle.terms.specs.declared.term.reader.Frame.{Frame}
@@ -27,13 +25,6 @@ depth_is r = length_stacked (at r.nodes) r.frames r.depth
 -- behind an operand with no bracket open
 whole : (r : Reader) (x : ℕ) → r.position ≡ Behind x → r.depth ≡ 0 → partial r ≡ record { brackets = []; sum = (partial r).sum; place = past (at r.nodes x); actions = r.actions }
 whole r x e o = same_partial (ap (λ n. opened (at r.nodes) (stacked r.frames n)) o) refl (ap (place (at r.nodes)) e) refl
-
-pub unfinished : (r : Reader) (x end : ℕ) → r.position ≡ Behind x → (r.depth ≡ 0 → ⊥) → scanned (partial r) end [] ≡ Some (Early end)
-unfinished r x end e o = rw e (go (length (partial r).brackets) (depth_is r))
-  where
-    go : (n : ℕ) → n ≡ r.depth → at_end behind n end ≡ Some (Early end)
-    go zero f = absurd (o (sym f))
-    go (suc n) f = refl
 
 -- the term that was read whole
 module _ (r : Reader) (n : Nodes) (x k : ℕ) (c : Counted (partial r)) (e : r.position ≡ Behind x) (o : r.depth ≡ 0) (j : Joined r.nodes (plus (known (at r.nodes) r.sum) (at r.nodes x)) (one r.sum) k n) where

@@ -46,7 +46,7 @@ stacked_push fs n f l =
     rw add-one (λ i. a i ∷ b i)
 
 pub stacked_pop : (fs : List Frame) (n : ℕ) → 0 < n → stacked fs n ≡ get_or fs (n - 1) (record { sum = None; product = None }) ∷ stacked fs (n - 1)
-stacked_pop fs zero l = let b : ⊥ = omega arith in absurd b
+stacked_pop fs zero l = absurd (omega arith)
 stacked_pop fs (suc m) l = let e : suc m - 1 ≡ m = omega arith in rw e
 
 pub choose_lands : (r : Reader) (n₁ : Nodes) (x k : ℕ) → Joined r.nodes (plus (known (at r.nodes) r.sum) (at r.nodes x)) (one r.sum) k n₁ → held n₁ (stacked r.frames r.depth) (Some k) (Before None) r.actions ≡ record (partial r) { sum = Some (plus (partial r).sum (at r.nodes x)); place = ahead None }

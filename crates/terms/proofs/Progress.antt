@@ -38,7 +38,7 @@ feeds_push q q' [] c e = let f : q ≡ q' = cc in rw f (last (feed q' c))
 feeds_push q q' (x ∷ xs) c e = go (λ z f. feeds_push z q' xs c f) (feed q x) e
   where
     go : ((z : Partial) → feeds z xs ≡ Some q' → feeds z (xs ++ c ∷ []) ≡ feed q' c) → (o : Option Partial) → then_feeds o (λ z. feeds z xs) ≡ Some q' → then_feeds o (λ z. feeds z (xs ++ c ∷ [])) ≡ feed q' c
-    go more None f = let z : ◌≡◌ {A = ℕ} 0 1 = cc in let b : ⊥ = omega arith in absurd b
+    go more None f = cc
     go more (Some z) f = more z f
 
 within : (r : Reader) → Within (partial r)
@@ -106,7 +106,7 @@ refused_large text f u e d = ⊎_elim large none (spelled_scan text u d)
     large h = let k = h.1 in let g : h.0 ≡ f = cc in subst TooLarge g h.2
 
     none : scanned start 0 text ≡ None → TooLarge f
-    none h = let z : ◌≡◌ {A = ℕ} 0 1 = cc in let b : ⊥ = omega arith in absurd b
+    none h = cc
 
 -- what reading a text promises of its answer
 abbrev pub Promised : List ℕ → Result Term TermFault → Type 0

@@ -1,12 +1,8 @@
 -- Runs of steps: what is listed behind them leaves them as they are.
-use Rattle.std.proofs.Common.{◌≡◌, ℕ, zero, suc, ◌+◌, ◌-◌, ◌<◌, ◌≤◌, List, ◌∷◌, ◌++◌, length, get_or, sym, refl, ap, ◌∙◌, add-zero, zero-add, arith, length-append}
-use Rattle.std.proofs.lemmas.List.FromFn.{length-map-range_with_len}
+use Rattle.std.proofs.Common.{◌≡◌, ℕ, zero, suc, ◌+◌, ◌<◌, ◌≤◌, List, ◌∷◌, ◌++◌, length, get_or, sym, refl, ap, ◌∙◌, add-zero, zero-add, arith, length-append}
 use Rattle.terms.specs.Lists.{span, Shows, Keeps, Listed}
 use Rattle.terms.specs.declared.run.Run.{Run}
 use Rattle.terms.specs.declared.listing.Listing.{Listing}
-
-pub length_span : (steps : List (ℕ × ℕ)) (a n : ℕ) → length (span steps a n) ≡ n
-length_span steps a n = length-map-range_with_len (λ k. get_or steps k (0, 0)) a n
 
 -- a run depends on its own steps only
 pub span_same : (xs ys : List (ℕ × ℕ)) (a n : ℕ) → ((k : ℕ) → k < a + n → get_or ys k (0, 0) ≡ get_or xs k (0, 0)) → span ys a n ≡ span xs a n
@@ -55,10 +51,3 @@ listed_join l l₁ l₂ xs ys j k =
       steps = ap (span l₂.steps l.listed) n ∙ span_join l₂.steps l.listed (length xs) (length ys) ∙ (λ i. first i ++ second i);
       states = k.states ∙ s;
     }
-
--- what was listed last stands in a run
-pub listed_shows : (l l' : Listing) (xs : List (ℕ × ℕ)) → Listed l xs l' → Shows l' (record { from = l.listed; count = l'.listed - l.listed }) xs
-listed_shows l l' xs j =
-    let a = j.added in
-    let n : l'.listed - l.listed ≡ length xs = omega arith in
-    record { inside = omega arith; steps = ap (span l'.steps l.listed) n ∙ j.steps }

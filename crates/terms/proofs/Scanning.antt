@@ -66,7 +66,7 @@ feeds_scan q q' (c ∷ cs) at w e = go (λ z k f. feeds_scan z q' cs (at + 1) k 
     step z f rest (inr k) = on z f k (rest k)
 
     go : ((z : Partial) → Within z → feeds z cs ≡ Some q' → Passed z (at + 1) cs q') → (o : Option Partial) → feed q c ≡ o → then_feeds o (λ z. feeds z cs) ≡ Some q' → Passed q at (c ∷ cs) q'
-    go rest None f k = let z : ◌≡◌ {A = ℕ} 0 1 = cc in let b : ⊥ = omega arith in absurd b
+    go rest None f k = cc
     go rest (Some z) f k = step z f (λ v. rest z v k) (fed_over (fed q z c f) w at cs)
 
 -- what the grammar spells is refused for nothing but its size

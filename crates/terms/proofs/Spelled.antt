@@ -1,5 +1,5 @@
 -- What is put together is what the text spells.
-use Rattle.std.proofs.Common.{◌≡◌, ℕ, ◌+◌, true, List, [], ◌∷◌, ◌++◌, Some, None, Option, sym, refl, ◌∙◌, subst, append_assoc, append-nil, add_assoc, add-one, arith}
+use Rattle.std.proofs.Common.{◌≡◌, ℕ, ◌+◌, true, List, [], ◌∷◌, ◌++◌, Some, None, Option, sym, refl, ◌∙◌, subst, append_assoc, append-nil, add_assoc, add-one}
 use Rattle.terms.specs.Syntax.{Tree, leaf, size}
 use Rattle.terms.specs.Grammar.{Level, sum, product, operand, Spells, action, bracket, one_operand, more_operands, one_product, more_products}
 use Rattle.terms.specs.Scan.{is_action}
@@ -86,7 +86,7 @@ spelled_feeds q q' xs [] h e = let f : q ≡ q' = cc in rw (append-nil xs) (subs
 spelled_feeds q q' xs (c ∷ ys) h e = go (λ z k f. spelled_feeds z q' (xs ++ c ∷ []) ys k f) (feed q c) refl e
   where
     go : ((z : Partial) → Spelled z (xs ++ c ∷ []) → feeds z ys ≡ Some q' → Spelled q' ((xs ++ c ∷ []) ++ ys)) → (o : Option Partial) → feed q c ≡ o → then_feeds o (λ z. feeds z ys) ≡ Some q' → Spelled q' (xs ++ c ∷ ys)
-    go rest None f k = let z : ◌≡◌ {A = ℕ} 0 1 = cc in let b : ⊥ = omega arith in absurd b
+    go rest None f k = cc
     go rest (Some z) f k = let r = append_assoc xs (c ∷ []) ys in rw (← r) (rest z (spelled_fed (fed q z c f) h) k)
 
 whole : (s : Option Tree) (x : Tree) (n : ℕ) (xs : List ℕ) → Spelled (record { brackets = []; sum = s; place = past x; actions = n }) xs → Spells sum 0 xs (plus s x)

@@ -7,7 +7,6 @@ use Rattle.lts.specs.Laws.Member.{in_left, in_right, in_either, nth_map, nth_rig
 use Rattle.terms.specs.Syntax.{Tree, leaf, choice, sequence, size, Rest, done, left, Numbered}
 use Rattle.terms.specs.Rules.{Process, ◌⊙◌, Derives, act_done, choice_left, choice_right, sequence_done, sequence_left, plain, plain_rest}
 use Rattle.terms.specs.Graph.{followed, rests, contents, firsts}
-use Rattle.terms.specs.Laws.Order.{never}
 use Rattle.terms.specs.Laws.Lawful.{length_rests}
 use Rattle.terms.proofs.Joined.{nth_first, nth_either, nth_from_map}
 
@@ -54,10 +53,10 @@ derived (sequence x y) a i r s = rw s.2 (sequence_derives (plain x) y a s.0 (der
 -- and no others
 plain_done : (y : Tree) (q : Rest Tree) → plain_rest q ≡ done → plain_rest (followed y q) ≡ left (plain y)
 plain_done y done e = refl
-plain_done y (left u) e = never (cc)
+plain_done y (left u) e = cc
 
 plain_left : (y : Tree) (q : Rest Tree) (p : Process) → plain_rest q ≡ left p → plain_rest (followed y q) ≡ left (p ⊙ plain y)
-plain_left y done p e = never (cc)
+plain_left y done p e = cc
 plain_left y (left u) p e = let same : plain u ≡ p = cc in ap (λ v. left (v ⊙ plain y)) same
 
 pub stepped : (x : Tree) (a : ℕ) (r : Rest Process) → Derives (plain x) a r → (i : ℕ) × (r' : Rest Tree) × Steps x a i r' × (plain_rest r' ≡ r)
@@ -91,7 +90,7 @@ remains_behind u v x a i r (left y) h e m =
 pub remains_of_rest : (t x : Tree) (s a i : ℕ) (r : Rest Tree) → Remains t s (left x) → Steps x a i r → Remains t i r
 remains_of_rest (leaf b j) x s a i r h m =
     let e = h.1 in
-    never (cc)
+    cc
 remains_of_rest (choice u v) x s a i r (inl h) m = inl (remains_of_rest u x s a i r h m)
 remains_of_rest (choice u v) x s a i r (inr h) m = inr (remains_of_rest v x s a i r h m)
 remains_of_rest (sequence u v) x s a i r (inl h) m =
@@ -127,7 +126,7 @@ remains_at t r e h = rw e at h
 
 pub remaining : (j : ℕ) (t : Tree) (k : ℕ) (r : Rest Tree) → Numbered j t → slice_get (rests t) k ≡ Some r → Remains t (suc (j + k)) r
 remaining j (leaf b l) zero r n h = (omega (arith, n.1), cc)
-remaining j (leaf b l) (suc k) r n h = never (cc)
+remaining j (leaf b l) (suc k) r n h = cc
 remaining j (choice x y) k r n h =
     ⊎_elim
     (λ e. inl (remaining j x k r n.0 e))

@@ -6,10 +6,6 @@ use Rattle.lts.specs.Laws.Member.{in_either, from_map}
 use Rattle.terms.specs.Syntax.{Tree, leaf, choice, sequence, size, Numbered, Rest, done, left}
 use Rattle.terms.specs.Graph.{followed, rests, firsts, Rises}
 
--- two constructors are never equal: then any two numbers would be
-pub never : {X : Type 0} → ◌≡◌ {A = ℕ} 0 1 → X
-never e = let b : ⊥ = omega arith in absurd b
-
 -- every action is at most 63, and the targets rise from above `low` to `high` at most
 abbrev pub Within : ℕ → ℕ → List (ℕ × ℕ) → Type 0
 Within low high [] = low ≤ high
@@ -66,7 +62,7 @@ followed_within i u v x (left y) n w e =
 
 -- the same of what remains after an action
 pub rests_within : (i : ℕ) (t x : Tree) → Numbered i t → In (left x) (rests t) → Within i (i + size t) (firsts x)
-rests_within i (leaf a j) x n (inl e) = never (cc)
+rests_within i (leaf a j) x n (inl e) = cc
 rests_within i (leaf a j) x n (inr h) = absurd h
 rests_within i (choice u v) x n h =
     ⊎_elim
