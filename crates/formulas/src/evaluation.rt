@@ -42,6 +42,7 @@ fn mark_line<S: System>(source: &S, lines: &[Line], k: usize, work: &mut [u8])
     ensures kept { drop (length lines.now * (S.meaning source.now).count) work.new ≡ drop (length lines.now * (S.meaning source.now).count) work.old }
 {
     let n = source.states();
+    // By index, since each mark is read off earlier ones of the same buffer.
     for s in 0..n {
         work[k * n + s] = u8::from(holds(source, lines, k, s, work));
     }

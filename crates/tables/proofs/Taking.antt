@@ -1,5 +1,6 @@
 -- A draft takes in one record after another.
 use Rattle.std.proofs.Common.{◌≡◌, ℕ, ◌+◌, ◌<◌, ◌≤◌, Bool, true, false, ◌||◌, eqb, ◌⊎◌, List, [], ◌∷◌, ◌++◌, length, get_or, take, set, None, sym, refl, ap, ◌∙◌, subst, inl, inr, ⊎_elim, append_assoc, append-nil, arith, length-set, get_or-set_other, get_or-set_same}
+use Rattle.std.proofs.Math.Bool.{or-false, or_assoc}
 use Rattle.std.proofs.lemmas.List.{take_more_set, length-take-le}
 use Rattle.std.proofs.lemmas.Bool.{le-ltb, lt-leb, eq-eqb, ne_eqb, cases_eq, or_right}
 use Rattle.lts.specs.Meaning.{In}
@@ -14,18 +15,10 @@ use Rattle.tables.specs.declared.draft.Draft.{Draft}
 use Rattle.tables.specs.declared.step.Step.{Step}
 use Rattle.tables.proofs.Outgoing.{out_here, out_other, numbers_set}
 
-or_last : (b : Bool) → (b || false) ≡ b
-or_last true = refl
-or_last false = refl
-
 -- one record more at the end
 pub ended_push : (s : ℕ) (rs : List Rec) (r : Rec) → ended s (rs ++ r ∷ []) ≡ (ended s rs || names_end s r.kind r.body)
-ended_push s [] r = or_last (names_end s r.kind r.body)
-ended_push s (x ∷ rs) r = rw (ended_push s rs r) (sym (assoc (names_end s x.kind x.body) (ended s rs) (names_end s r.kind r.body)))
-  where
-    assoc : (a b c : Bool) → ((a || b) || c) ≡ (a || (b || c))
-    assoc true b c = refl
-    assoc false b c = refl
+ended_push s [] r = or-false (names_end s r.kind r.body)
+ended_push s (x ∷ rs) r = rw (ended_push s rs r) (sym (or_assoc (names_end s x.kind x.body) (ended s rs) (names_end s r.kind r.body)))
 
 pub steps_push : (rs : List Rec) (r : Rec) → steps_of (rs ++ r ∷ []) ≡ steps_of rs ++ step_of r.kind r.body
 steps_push [] r = append-nil (step_of r.kind r.body)
@@ -63,7 +56,7 @@ same_steps h rs d x w e = w.steps ∙ sym (steps_push (h ∷ rs) x ∙ (ap (λ x
 -- a draft that keeps its ends under a record that names none
 module _ (h : Rec) (rs : List Rec) (d : Draft) (x : Rec) (w : Draws h rs d) (e : (s : ℕ) → names_end s x.kind x.body ≡ false) where
   unnamed : (s : ℕ) → ended s (h ∷ (rs ++ x ∷ [])) ≡ ended s (h ∷ rs)
-  unnamed s = ended_push s (h ∷ rs) x ∙ rw (e s) (or_last (ended s (h ∷ rs)))
+  unnamed s = ended_push s (h ∷ rs) x ∙ rw (e s) (or-false (ended s (h ∷ rs)))
 
   same_ends : (s : ℕ) → s < d.states → get_or d.ends s false ≡ ended s (h ∷ (rs ++ x ∷ []))
   same_ends s l = w.ends s l ∙ sym (unnamed s)
@@ -94,7 +87,7 @@ module _ (at state : ℕ) (d : Draft) (below : state < d.states) (h : Rec) (rs :
       let b : (ended state (h ∷ rs) || eqb state state) ≡ true = or_right (ended state (h ∷ rs)) (eqb state state) (eq-eqb state state refl) in
       subst (λ z. get_or (set d.ends state true) z false ≡ (ended z (h ∷ rs) || eqb z state)) (sym e) (get_or-set_same d.ends state true false i ∙ sym b)
   marked s l (inr n) =
-      rw (ne_eqb s state n) (get_or-set_other d.ends state s true false n ∙ (w.ends s l ∙ sym (or_last (ended s (h ∷ rs)))))
+      rw (ne_eqb s state n) (get_or-set_other d.ends state s true false n ∙ (w.ends s l ∙ sym (or-false (ended s (h ∷ rs)))))
 
   unmarked : (s : ℕ) → d.states ≤ s → (ended s (h ∷ rs) || eqb s state) ≡ false
   unmarked s l = rw (w.no_ends s l, ne_eqb s state (λ e. omega arith))
