@@ -107,7 +107,7 @@ impl Output {
         ensures { Holds result (reply_text verb slot outcome.now ++ 10 ∷ []) }
     {
         let mut out = Output::new();
-        out.push(verb.letter());
+        out.push(verb.into());
         out.push(b' ');
         out.number(slot as usize);
         out.push(b' ');
@@ -121,7 +121,7 @@ impl Output {
         ensures { Holds result (codes "M ok" ++ 10 ∷ []) }
     {
         let mut out = Output::new();
-        out.push(Verb::Rename.letter());
+        out.push(Verb::Rename.into());
         out.text(b" ok\n");
         out
     }
