@@ -37,6 +37,7 @@ fn verb(line: &[u8]) -> Result<Verb, ConsoleFault>
     found(line, 0, letter)
 }
 
+// The verb of a letter.
 fn letter(byte: u8) -> Option<Verb>
     ensures { Stands Lettered byte result }
 {

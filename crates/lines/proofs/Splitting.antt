@@ -1,5 +1,5 @@
 -- Where parts and lines end.
-use Rattle.std.proofs.Common.{◌≡◌, ℕ, ◌+◌, ◌<◌, ◌==◌, Bool, true, false, eqb, List, [], ◌∷◌, length, take, drop, refl, ap, arith}
+use Rattle.std.proofs.Common.{◌≡◌, ℕ, ◌+◌, ◌<◌, ◌≤◌, ◌==◌, Bool, true, false, eqb, List, [], ◌∷◌, length, take, drop, refl, ap, arith}
 use Rattle.std.proofs.Math.Numerals.{one-add}
 use Rattle.std.proofs.lemmas.Bool.Decides.{nat_tests}
 use Rattle.std.specs.List.{position_or_len}
@@ -23,3 +23,12 @@ pub lines_first : (text : List ℕ) → 0 < length text → all_lines text ≡ f
 lines_first [] l = absurd (omega (arith, l))
 lines_first (b ∷ []) l = grind (arith, nat_tests)
 lines_first (b ∷ c ∷ bs) l = let h = lines_first (c ∷ bs) (omega arith) in grind (arith, nat_tests)
+
+-- what follows a part is shorter than a text that is not empty
+later_most : (mark : ℕ) (text : List ℕ) → length (later_part mark text) ≤ length text
+later_most mark [] = omega arith
+later_most mark (b ∷ bs) = let h = later_most mark bs in grind (arith, nat_tests)
+
+pub later_shorter : (mark : ℕ) (text : List ℕ) → 0 < length text → length (later_part mark text) < length text
+later_shorter mark [] l = l
+later_shorter mark (b ∷ bs) l = let h = later_most mark bs in grind (arith, nat_tests)

@@ -16,6 +16,8 @@ const ROOM: u8 = 32;
 
 const BASE: usize = 10;
 
+// `write!` may answer an error, and none of its clauses rules that out where the writer never fails, so the pieces are written
+// by calls of their own.
 impl Output {
     fn new() -> Output
         ensures { written result ≡ [] }
