@@ -1,14 +1,9 @@
 -- Lines that are of the form, from what stands at their first places.
-use Rattle.std.proofs.Common.{◌≡◌, ℕ, ◌<◌, ◌≤◌, List, [], ◌∷◌, length, get_or, drop, sym, refl, subst, arith}
-use Rattle.terms.specs.Grammar.{Letter, small, capital, digit}
+use Rattle.std.proofs.Common.{◌≡◌, ℕ, ◌<◌, List, [], ◌∷◌, length, get_or, drop, Ok, Err, Result, sym, refl, subst, arith, MatchResult}
 use Rattle.commands.specs.Form.{file, submit, release, withdraw, rename, Form, files, submits, releases, withdraws, renames}
-use Rattle.commands.specs.Reading.{SlotAt, TextAt, ActionsAt}
-
--- no action has this character
-pub no_letter : {c a : ℕ} → (97 ≤ c → c ≤ 122 → ⊥) → (65 ≤ c → c ≤ 90 → ⊥) → (48 ≤ c → c ≤ 57 → ⊥) → Letter c a → ⊥
-no_letter s k d (small l h) = s l h
-no_letter s k d (capital l h) = k l h
-no_letter s k d (digit l h) = d l h
+use Rattle.commands.specs.Reading.{asked, Misfits, Read, SlotAt, TextAt, ActionsAt}
+use Rattle.commands.specs.declared.command.Command.{Command}
+use Rattle.commands.specs.declared.fault.ConsoleFault.{ConsoleFault}
 
 -- the first bytes of a line, and the rest
 unrolled : (line : List ℕ) → 3 < length line → line ≡ get_or line 0 0 ∷ get_or line 1 0 ∷ get_or line 2 0 ∷ get_or line 3 0 ∷ drop 4 line
@@ -61,3 +56,8 @@ rename_fits line a b l at =
     let e = at.1 in
     let q : line ≡ 77 ∷ 32 ∷ get_or line 2 0 ∷ get_or line 3 0 ∷ [] = cc in
     subst (λ z. Form z (rename a b)) (sym q) (renames at.2 at.3)
+
+-- a command made of what stands behind its letter
+pub made : {X : Type 0} (line : List ℕ) (r : Result X ConsoleFault) (out : Result Command ConsoleFault) (P : X → Type 0) (make : X → Command) → ((x : X) → P x → Form line (asked (make x))) → MatchResult r P (Misfits line) → MatchResult r (λ x. out ≡ Ok (make x)) (λ f. out ≡ Err f) → Read line out
+made line (Ok x) out P make fits h e = rw e (fits x h)
+made line (Err f) out P make fits h e = rw e h

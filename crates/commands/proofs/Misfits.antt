@@ -5,8 +5,8 @@ use Rattle.std.proofs.lemmas.List.FromFn.{fill_by_all}
 use Rattle.std.proofs.lemmas.List.{length-take-le, get_or-take, get_or_append_left}
 use Rattle.terms.specs.Grammar.{Letter, small}
 use Rattle.commands.specs.Form.{Request, file, submit, release, withdraw, rename, Digit, Form, files, submits, releases, withdraws, renames, Begins, Misfit}
-use Rattle.commands.specs.Letters.{letter_of, NoLetter, Texted, Alone, Slotted}
-use Rattle.commands.specs.Reading.{Misfits, Found, SlotAt}
+use Rattle.commands.specs.Letters.{letter_of, Lettered, NoLetter, Texted, Alone, Slotted}
+use Rattle.commands.specs.Reading.{Misfits, Stands, Found, SlotAt}
 use Rattle.commands.specs.declared.fault.ConsoleFault.{ConsoleFault}
 use Rattle.commands.specs.declared.verb.Verb.{Verb}
 use Rattle.commands.specs.declared.verb.Verb.TheVariants.{File, Submit, Release, Withdraw, Rename}
@@ -32,11 +32,15 @@ left_at : (line : List ℕ) (p : ℕ) → p ≤ length line → Begins (take p l
 left_at line p inside fits clash early =
     record { inside = inside; fits = fits; stops = λ l b. clash (take (p + 1) line ++ b.0) b.1 l b.2 (shared line p b.0 l); early = λ e r f. early r f (sym e) }
 
-pub at_letter : (line : List ℕ) → (0 < length line → NoLetter (get_or line 0 0)) → Misfit line 0
+at_letter : (line : List ℕ) → (0 < length line → NoLetter (get_or line 0 0)) → Misfit line 0
 at_letter line none =
     left_at line 0 (omega arith) (70 ∷ 32 ∷ 48 ∷ 32 ∷ [], file 0 [], files (omega arith, refl))
     (λ other r l f s. (let v = form_letter f in none l v.0 (sym (s.bytes 0 (omega arith)) ∙ v.1)))
     (λ r f e. (let n = form_length f in omega (arith, e, n)))
+
+pub letter_found : (line : List ℕ) (r : Result Verb ConsoleFault) → Found (Stands Lettered) line 0 r → MatchResult r (λ v. (0 < length line) × (get_or line 0 0 ≡ letter_of v)) (Misfits line)
+letter_found line (Ok v) h = h
+letter_found line (Err f) h = rw h.0 (at_letter line h.1, omega arith)
 
 -- a letter, and a letter with a space, begin a line
 letter_begins : (v : Verb) → Begins (letter_of v ∷ [])
@@ -97,7 +101,7 @@ module _ (line : List ℕ) (letter : Slotted (get_or line 0 0)) where
       (λ other r h f s. (let d = form_digit f (subst Slotted (sym (s.bytes 0 (omega arith))) letter) in none h d.0 (subst (λ b. Digit b d.0) (s.bytes 2 (omega arith)) d.1)))
       (λ r f e. (let n = form_length f in omega (arith, e, n)))
 
-  pub slot_found : (r : Result ℕ ConsoleFault) → 1 < length line → get_or line 1 0 ≡ 32 → Found Digit line 2 r → MatchResult r (SlotAt line) (Misfits line)
+  pub slot_found : (r : Result ℕ ConsoleFault) → 1 < length line → get_or line 1 0 ≡ 32 → Found (Stands Digit) line 2 r → MatchResult r (SlotAt line) (Misfits line)
   slot_found (Ok s) l e h = (h.0, e, h.1)
   slot_found (Err f) l e h = rw h.0 (no_digit l e h.1, omega arith)
 

@@ -1,5 +1,5 @@
 -- What reading a line answers.
-use Rattle.std.specs.Prelude.{◌≡◌, ℕ, ◌<◌, ◌≤◌, List, length, drop, Ok, Err, Result, slice_index}
+use Rattle.std.specs.Prelude.{◌≡◌, ℕ, ◌<◌, ◌≤◌, List, length, drop, Some, None, Ok, Err, Option, Result, slice_index}
 use Rattle.terms.specs.Grammar.{Letter}
 use Rattle.commands.specs.Form.{Request, file, submit, release, withdraw, rename, Digit, Form as OfForm, Misfit}
 use Rattle.commands.specs.declared.command.Command.{Command}
@@ -27,10 +27,15 @@ abbrev pub Read : List ℕ → Result Command ConsoleFault → Type 0
 Read line (Ok c) = OfForm line (asked c)
 Read line (Err fault) = Misfits line fault
 
--- the byte at a place is of a kind and stands for x; or it is not, or the line ends before it
-abbrev pub Found : {X : Type 0} → (ℕ → X → Type 0) → List ℕ → ℕ → Result X ConsoleFault → Type 0
-Found Kind line at (Ok x) = (at < length line) × Kind (slice_index line at) x
-Found {X} Kind line at (Err fault) = (fault ≡ Form at) × (at < length line → (x : X) → Kind (slice_index line at) x → ⊥)
+-- a byte is of a kind and stands for x, or stands for nothing
+abbrev pub Stands : {X : Type 0} → (ℕ → X → Type 0) → ℕ → Option X → Type 0
+Stands Kind c (Some x) = Kind c x
+Stands {X} Kind c None = (x : X) → Kind c x → ⊥
+
+-- what is read of the byte at a place; or nothing is, or the line ends before it
+abbrev pub Found : {X : Type 0} → (ℕ → Option X → Type 0) → List ℕ → ℕ → Result X ConsoleFault → Type 0
+Found Reads line at (Ok x) = (at < length line) × Reads (slice_index line at) (Some x)
+Found Reads line at (Err fault) = (fault ≡ Form at) × (at < length line → Reads (slice_index line at) None)
 
 -- the line ends at a place or before, or goes on
 abbrev pub Ended : List ℕ → ℕ → Result (Unit {0}) ConsoleFault → Type 0

@@ -2,8 +2,8 @@
 ghost use Rattle.std.specs.Prelude.{◌≡◌, ◌<◌, length, MatchResult, slice_index};
 ghost use Rattle.terms.specs.Grammar.{Letter};
 ghost use Rattle.commands.specs.Form.{Digit, Space};
-ghost use Rattle.commands.specs.Letters.{Slotted, Texted, Alone, letter_of};
-ghost use Rattle.commands.specs.Reading.{Read, Misfits, Found, Ended, SlotAt, TextAt, ActionsAt};
+ghost use Rattle.commands.specs.Letters.{Lettered, Slotted, Texted, Alone, letter_of};
+ghost use Rattle.commands.specs.Reading.{Read, Misfits, Stands, Found, Ended, SlotAt, TextAt, ActionsAt};
 
 use crate::fault::ConsoleFault;
 use crate::verb::Verb;
@@ -19,56 +19,52 @@ pub enum Command<'a> {
     Rename { from: u8, to: u8 },
 }
 
+// What a reader of one byte makes of the byte at a place.
+fn found<T, F: FnOnce(u8) -> Option<T>>(line: &[u8], at: usize, read: F) -> Result<T, ConsoleFault>
+    requires { F.IsAlwaysCallable read }
+    ensures { Found (F.post read) line.now at result }
+{
+    line.get(at)
+        .copied()
+        .and_then(read)
+        .ok_or(ConsoleFault::Form(at))
+}
+
 // The letter that a line begins with.
 fn verb(line: &[u8]) -> Result<Verb, ConsoleFault>
     ensures { MatchResult result (λ v. (0 < length line.now) × (slice_index line.now 0 ≡ letter_of v)) (Misfits line.now) }
 {
-    if line.is_empty() {
-        return Err(ConsoleFault::Form(0));
-    }
-    match Verb::read(line[0]) {
-        Some(verb) => Ok(verb),
-        None => Err(ConsoleFault::Form(0)),
+    found(line, 0, letter)
+}
+
+// The verb of a letter.
+fn letter(byte: u8) -> Option<Verb>
+    ensures { Stands Lettered byte result }
+{
+    Verb::try_from(byte).ok()
+}
+
+fn space(byte: u8) -> Option<()>
+    ensures { Stands Space byte result }
+{
+    (byte == b' ').then_some(())
+}
+
+// The number of a digit.
+fn digit(byte: u8) -> Option<u8>
+    ensures { Stands Digit byte result }
+{
+    match byte {
+        b'0'..=b'9' => Some(byte - b'0'),
+        _ => None,
     }
 }
 
-// One space at a place.
-fn space(line: &[u8], at: usize) -> Result<(), ConsoleFault>
-    ensures { Found Space line.now at result }
+// The action of a character.
+fn action(byte: u8) -> Option<u8>
+    ensures { Stands Letter byte result }
 {
-    if at >= line.len() || line[at] != b' ' {
-        return Err(ConsoleFault::Form(at));
-    }
-    Ok(())
-}
-
-// The number of the digit at a place.
-fn digit(line: &[u8], at: usize) -> Result<u8, ConsoleFault>
-    ensures { Found Digit line.now at result }
-{
-    if at >= line.len() {
-        return Err(ConsoleFault::Form(at));
-    }
-    match line[at] {
-        digit @ b'0'..=b'9' => Ok(digit - b'0'),
-        _ => Err(ConsoleFault::Form(at)),
-    }
-}
-
-// The action of the character at a place.
-fn action(line: &[u8], at: usize) -> Result<u8, ConsoleFault>
-    ensures { Found Letter line.now at result }
-{
-    if at >= line.len() {
-        return Err(ConsoleFault::Form(at));
-    }
-    let byte = line[at];
-    match byte as char {
-        'a'..='z' => Ok(byte - b'a'),
-        'A'..='Z' => Ok(byte - b'A' + 26),
-        '0'..='9' => Ok(byte - b'0' + 52),
-        _ => Err(ConsoleFault::Form(at)),
-    }
+    terms::letter::action(char::from(byte))
 }
 
 // The line's end, at a place that it reaches.
@@ -86,8 +82,8 @@ fn slot(line: &[u8]) -> Result<u8, ConsoleFault>
     requires { Slotted (slice_index line.now 0) }
     ensures { MatchResult result (SlotAt line.now) (Misfits line.now) }
 {
-    space(line, 1)?;
-    digit(line, 2)
+    found(line, 1, space)?;
+    found(line, 2, digit)
 }
 
 // The slot and the text behind a letter.
@@ -96,7 +92,7 @@ fn slot_and_text(line: &[u8]) -> Result<(u8, &[u8]), ConsoleFault>
     ensures { MatchResult result (λ v. SlotAt line.now v.0 × TextAt line.now v.1.now) (Misfits line.now) }
 {
     let slot = slot(line)?;
-    space(line, 3)?;
+    found(line, 3, space)?;
     Ok((slot, &line[4..]))
 }
 
@@ -115,9 +111,9 @@ fn two_actions(line: &[u8]) -> Result<(u8, u8), ConsoleFault>
     requires { slice_index line.now 0 ≡ letter_of Verb.Rename }
     ensures { MatchResult result (λ v. ActionsAt line.now v.0 v.1) (Misfits line.now) }
 {
-    space(line, 1)?;
-    let from = action(line, 2)?;
-    let to = action(line, 3)?;
+    found(line, 1, space)?;
+    let from = found(line, 2, action)?;
+    let to = found(line, 3, action)?;
     end(line, 4)?;
     Ok((from, to))
 }
@@ -128,26 +124,11 @@ impl<'a> Command<'a> {
         ensures { Read line.now result }
     {
         match verb(line)? {
-            Verb::File => {
-                let (slot, text) = slot_and_text(line)?;
-                Ok(Command::File { slot, text })
-            }
-            Verb::Submit => {
-                let (slot, text) = slot_and_text(line)?;
-                Ok(Command::Submit { slot, text })
-            }
-            Verb::Release => {
-                let slot = slot_alone(line)?;
-                Ok(Command::Release { slot })
-            }
-            Verb::Withdraw => {
-                let slot = slot_alone(line)?;
-                Ok(Command::Withdraw { slot })
-            }
-            Verb::Rename => {
-                let (from, to) = two_actions(line)?;
-                Ok(Command::Rename { from, to })
-            }
+            Verb::File => slot_and_text(line).map(|(slot, text)| Command::File { slot, text }),
+            Verb::Submit => slot_and_text(line).map(|(slot, text)| Command::Submit { slot, text }),
+            Verb::Release => slot_alone(line).map(|slot| Command::Release { slot }),
+            Verb::Withdraw => slot_alone(line).map(|slot| Command::Withdraw { slot }),
+            Verb::Rename => two_actions(line).map(|(from, to)| Command::Rename { from, to }),
         }
     }
 }

@@ -16,4 +16,4 @@ pub use input::admit;
 pub use outcome::Outcome;
 pub use output::Output;
 pub use readings::lines_are_read_one_way;
-pub use verb::Verb;
+pub use verb::{UnknownLetter, Verb};

@@ -1,6 +1,5 @@
 // The letters of the commands.
-ghost use Rattle.std.specs.Prelude.{◌≡◌, MatchOption};
-ghost use Rattle.commands.specs.Letters.{letter_of, NoLetter};
+ghost use Rattle.commands.specs.Letters.{letter_of, Decodes};
 
 #[derive(Clone, Copy)]
 pub enum Verb {
@@ -11,25 +10,34 @@ pub enum Verb {
     Rename,
 }
 
-impl Verb {
-    // What a letter stands for.
-    pub(crate) fn read(byte: u8) -> Option<Verb>
-        ensures { MatchOption result (NoLetter byte) (λ v. byte ≡ letter_of v) }
-    {
-        match byte as char {
-            'F' => Some(Verb::File),
-            'S' => Some(Verb::Submit),
-            'R' => Some(Verb::Release),
-            'W' => Some(Verb::Withdraw),
-            'M' => Some(Verb::Rename),
-            _ => None,
+// A byte that is the letter of no command.
+#[derive(Clone, Copy, Debug)]
+pub struct UnknownLetter(pub u8);
+
+impl TryFrom<u8> for Verb {
+    type Error = UnknownLetter;
+
+    ghost try_from_gives = { Decodes };
+
+    fn try_from(byte: u8) -> Result<Verb, UnknownLetter> {
+        match char::from(byte) {
+            'F' => Ok(Verb::File),
+            'S' => Ok(Verb::Submit),
+            'R' => Ok(Verb::Release),
+            'W' => Ok(Verb::Withdraw),
+            'M' => Ok(Verb::Rename),
+            _ => Err(UnknownLetter(byte)),
         }
     }
+}
 
-    pub(crate) fn letter(self) -> u8
-        ensures { result ≡ letter_of self }
-    {
-        match self {
+impl From<Verb> for u8 {
+    ghost use Rattle.std.specs.Prelude.{◌≡◌};
+
+    ghost from_gives = { λ verb byte. byte ≡ letter_of verb };
+
+    fn from(verb: Verb) -> u8 {
+        match verb {
             Verb::File => b'F',
             Verb::Submit => b'S',
             Verb::Release => b'R',

@@ -1,13 +1,19 @@
 -- What each way of a command is handled as.
-use Rattle.std.proofs.Common.{◌≡◌, ℕ, List, [], ◌++◌, Some, None, Ok, Err, codes, decimal, refl, ap, ◌∙◌, subst}
+use Rattle.std.proofs.Common.{◌≡◌, ℕ, List, [], ◌++◌, Some, None, Ok, Err, codes, decimal, refl, ap, ◌∙◌, subst, lit≤}
+use Rattle.lts.specs.Laws.Mapped.{mapped_lawful}
+use Rattle.lts.specs.Laws.Most.{lawful_most}
 use Rattle.lts.specs.Map.{mapped}
 use Rattle.lts.specs.Meaning.{Meaning, Lawful}
+use Rattle.lts.specs.declared.action_map.ActionMap.{ActionMap}
 use Rattle.theory.specs.Formulas.{Formula, depth}
 use Rattle.terms.specs.Grammar.{Spells, sum}
 use Rattle.terms.specs.Graph.{graph}
+use Rattle.terms.specs.Laws.Lawful.{term_lawful}
 use Rattle.terms.specs.Scan.{first_refusal}
 use Rattle.terms.specs.Syntax.{Tree}
+use Rattle.terms.specs.Terms.{tree_of}
 use Rattle.terms.specs.declared.fault.TermFault.{TermFault}
+use Rattle.terms.specs.declared.term.Term.{Term as Read}
 use Rattle.formulas.specs.declared.line.Line.{Line}
 use Rattle.comparison.specs.Compared.{Distinguished, Judged}
 use Rattle.comparison.specs.declared.report.Report.{Report}
@@ -31,6 +37,10 @@ use Rattle.console.specs.States.{state}
 -- what is called different is not alike to the procedure in force
 unlike : {a : Account} {s l k : ℕ} {m : Meaning} {f : Formula} {a' : Account} → Does a (shelf.submit s m l k) (called_different f) a' → (x : Filled) × (a.slots s ≡ Some x) × (Alike x.force m → ⊥)
 unlike (shelf.differs {x = x} e q u g) = (x, q, u)
+
+-- a term, as a map has it, keeps what every source keeps
+pub lawful : (map : ActionMap) (term : Read) → Lawful 128 (mapped map.entries (graph (tree_of term)))
+lawful map term = lawful_most 64 (mapped map.entries (graph (tree_of term))) (lit≤ tt) (mapped_lawful map.entries map.actions (graph (tree_of term)) (term_lawful term))
 
 -- a fault without a report is told by its number
 plain_answer : (f : ShelfFault) (lines : List Line) → ((report : Report) → f ≡ Differs report → ⊥) → fault_answer f lines ≡ refused (number_of f)

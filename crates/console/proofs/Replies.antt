@@ -1,6 +1,9 @@
 -- Each line is answered whole.
-use Rattle.std.proofs.Common.{◌≡◌, ℕ, ◌<◌, ◌≤◌, ◌⊎◌, List, [], ◌∷◌, ◌++◌, length, take, set, codes, Result, sym, subst, ⊎_elim, arith}
+use Rattle.std.proofs.Common.{◌≡◌, ℕ, ◌≤◌, List, [], ◌∷◌, ◌++◌, length, take, set, Some, None, codes, Option, Result, refl, sym, subst, ⊎_elim, arith}
+use Rattle.std.specs.Option.{IsSome}
 use Rattle.refusals.specs.Texts.{refusal_text}
+use Rattle.lts.specs.Map.{Changed}
+use Rattle.lts.specs.declared.action_map.ActionMap.{ActionMap}
 use Rattle.terms.specs.Grammar.{Letter, small, capital, digit}
 use Rattle.accounts.specs.Account.{Account}
 use Rattle.commands.specs.Faults.{of_console}
@@ -55,8 +58,9 @@ letter_action (capital l h) = omega arith
 letter_action (digit l h) = omega arith
 
 -- a map with another entry
-pub no_action : {line : List ℕ} {a b : ℕ} → Form line (rename a b) → (63 < a) ⊎ (63 < b) → ⊥
-no_action (form.renames x y) = let k = letter_action x in let l = letter_action y in ⊎_elim (λ h. omega (arith, h, k)) (λ h. omega (arith, h, l))
+pub changed : {line : List ℕ} {a b : ℕ} (entries : List ℕ) (map : Option ActionMap) → Form line (rename a b) → Changed entries a b map → IsSome map
+changed entries (Some map) f h = refl
+changed entries None (form.renames x y) h = let k = letter_action x in let l = letter_action y in absurd (⊎_elim (λ g. omega (arith, g, k)) (λ g. omega (arith, g, l)) h)
 
 pub renamed : {account : Account} {entries entries' line : List ℕ} {a b : ℕ} → Form line (rename a b) → entries' ≡ set entries a b → Handled (state account entries) line (codes "M ok") (state account entries')
 renamed {account} {entries} {line = line} f e = subst (λ z. Handled (state account entries) line (codes "M ok") (state account z)) (sym e) (record { calls = []; handles = renames f; lawful = tt })

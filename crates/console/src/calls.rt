@@ -30,8 +30,7 @@ pub(crate) fn file(
     ensures short { length (outcome_text result) ≤ 18 }
 {
     let term = Term::read(text)?;
-    let source = Mapped { map, source: &term };
-    shelf.file(slot as usize, &source)?;
+    shelf.file(slot as usize, &Mapped { map, source: &term })?;
     Ok(Outcome::Accepted)
 }
 
@@ -46,23 +45,24 @@ pub(crate) fn submit(
     ensures short { length (outcome_text result) ≤ 18 }
 {
     let term = Term::read(text)?;
-    let source = Mapped { map, source: &term };
     let mut lines = [Line::True; LINES];
     let mut classes = [0; CLASSES];
+    let source = Mapped { map, source: &term };
     match shelf.submit(slot as usize, &source, &mut lines, &mut classes) {
         Ok(report) => Ok(Outcome::Same {
             classes: report.classes,
             rounds: report.rounds,
         }),
-        Err(fault) => match fault {
-            ShelfFault::Different(report) => match report.verdict {
-                Verdict::Different { depth, .. } => Ok(Outcome::Different { depth }),
-                Verdict::Same => unreachable(),
-            },
-            refused => Err(ConsoleFault::Shelf(refused)),
+        Err(ShelfFault::Different(report)) => match report.verdict {
+            Verdict::Different { depth, .. } => Ok(Outcome::Different { depth }),
+            Verdict::Same => unreachable!(),
         },
+        Err(refused) => Err(ConsoleFault::Shelf(refused)),
     }
 }
+
+// `release` and `withdraw` differ in one call. A function over that call would have to say what the call does to a shelf,
+// which is longer than their two contracts.
 
 // Claims the pending procedure of a slot and releases it.
 pub(crate) fn release(shelf: &mut Shelf, slot: u8) -> Result<Outcome, ConsoleFault>

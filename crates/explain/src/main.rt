@@ -3,7 +3,7 @@
 #![tactic(auto)]
 
 use explanations::explain_given;
-use lines::{split_at_byte, split_line};
+use lines::{Lines, split_at_byte};
 use programs::{Answers, fetch};
 use std::io::Read;
 use std::{env, io};
@@ -35,12 +35,9 @@ fn explain_pair(
 fn explain_lines(rt: &HostRuntime, answers: &mut Answers) -> io::Result<()> {
     let mut text = Vec::new(rt.alloc());
     rt.stdin().read_to_end(&mut text)?;
-    let mut rest = text.as_slice();
-    while !rest.is_empty() {
-        let (line, later) = split_line(rest);
+    for line in Lines::new(text.as_slice()) {
         let (left, right) = split_at_byte(line, b' ');
         explain_pair(rt, answers, left, right)?;
-        rest = later;
     }
     Ok(())
 }

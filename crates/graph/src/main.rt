@@ -3,7 +3,7 @@
 #![tactic(auto)]
 
 use drawings::{Form, draw_input};
-use lines::split_line;
+use lines::Lines;
 use programs::{Answers, fetch};
 use std::io::Read;
 use std::{env, io};
@@ -26,11 +26,8 @@ fn draw_word(rt: &HostRuntime, answers: &mut Answers, form: Form, word: &[u8]) -
 fn draw_lines(rt: &HostRuntime, answers: &mut Answers, form: Form) -> io::Result<()> {
     let mut text = Vec::new(rt.alloc());
     rt.stdin().read_to_end(&mut text)?;
-    let mut rest = text.as_slice();
-    while !rest.is_empty() {
-        let (line, later) = split_line(rest);
+    for line in Lines::new(text.as_slice()) {
         draw_word(rt, answers, form, line)?;
-        rest = later;
     }
     Ok(())
 }

@@ -1,52 +1,34 @@
--- Where a part ends.
-use Rattle.std.proofs.Common.{◌≡◌, ℕ, suc, ◌+◌, ◌<◌, ◌≤◌, Bool, true, false, eqb, List, [], ◌∷◌, ◌++◌, length, get_or, take, drop, sym, refl, ap, ◌∙◌, append_assoc, append-nil, arith}
-use Rattle.std.proofs.lemmas.List.{take_more, drop_more, take_all, drop_all}
-use Rattle.std.proofs.lemmas.Bool.{eq-eqb, ne_eqb}
-use Rattle.lines.specs.Lines.{first_part, later_part}
+-- Where parts and lines end.
+use Rattle.std.proofs.Common.{◌≡◌, ℕ, ◌+◌, ◌<◌, ◌≤◌, ◌==◌, Bool, true, false, eqb, List, [], ◌∷◌, length, take, drop, refl, ap, arith}
+use Rattle.std.proofs.Math.Numerals.{one-add}
+use Rattle.std.proofs.lemmas.Bool.Decides.{nat_tests}
+use Rattle.std.specs.List.{position_or_len}
+use Rattle.lines.specs.Lines.{first_part, later_part, first_line, later_lines, all_lines}
 
--- the part goes on past the first i bytes
-pub record Unended (mark : ℕ) (text : List ℕ) (i : ℕ) : Type 0 where
-  pub first : first_part mark text ≡ take i text ++ first_part mark (drop i text)
-  pub later : later_part mark text ≡ later_part mark (drop i text)
+-- the parts, by the place of the first such byte
+pub first_part_is : (mark : ℕ) (text : List ℕ) → take (position_or_len (λ b. b == mark) text) text ≡ first_part mark text
+first_part_is mark [] = refl
+first_part_is mark (b ∷ bs) = go (eqb b mark) refl (first_part_is mark bs)
+  where
+    go : (t : Bool) → eqb b mark ≡ t → take (position_or_len (λ b. b == mark) bs) bs ≡ first_part mark bs → take (position_or_len (λ b. b == mark) (b ∷ bs)) (b ∷ bs) ≡ first_part mark (b ∷ bs)
+    go true e h = rw e refl
+    go false e h = rw (e, one-add) (ap (λ zs. b ∷ zs) h)
 
-module _ (mark : ℕ) (text : List ℕ) (i : ℕ) (inside : i < length text) (u : Unended mark text i) where
-  pub goes_on : (get_or text i 0 ≡ mark → ⊥) → Unended mark text (i + 1)
-  goes_on h =
-      let d = drop_more text i 0 inside in
-      let e = ne_eqb (get_or text i 0) mark h in
-      let first : first_part mark text ≡ take i text ++ (get_or text i 0 ∷ first_part mark (drop (i + 1) text)) = u.first ∙ ap (λ zs. take i text ++ first_part mark zs) d ∙ rw e in
-      record { first = first ∙ (sym (append_assoc (take i text) (get_or text i 0 ∷ []) (first_part mark (drop (i + 1) text))) ∙ ap (λ zs. zs ++ first_part mark (drop (i + 1) text)) (sym (take_more text i 0 inside))); later = u.later ∙ (ap (later_part mark) d ∙ rw e) }
+pub later_part_is : (mark : ℕ) (text : List ℕ) → drop (position_or_len (λ b. b == mark) text + 1) text ≡ later_part mark text
+later_part_is mark [] = refl
+later_part_is mark (b ∷ bs) = grind (arith, nat_tests, later_part_is mark bs)
 
-  pub ends_here : get_or text i 0 ≡ mark → (take i text ≡ first_part mark text) × (drop (i + 1) text ≡ later_part mark text)
-  ends_here h =
-      let d = drop_more text i 0 inside in
-      let e = eq-eqb (get_or text i 0) mark h in (
-        sym (u.first ∙ (ap (λ zs. take i text ++ first_part mark zs) d ∙ (rw e (append-nil (take i text))))),
-        sym (u.later ∙ (ap (later_part mark) d ∙ rw e)),
-      )
+-- the first line of a text, and those behind it
+pub lines_first : (text : List ℕ) → 0 < length text → all_lines text ≡ first_line text ∷ all_lines (later_lines text)
+lines_first [] l = absurd (omega (arith, l))
+lines_first (b ∷ []) l = grind (arith, nat_tests)
+lines_first (b ∷ c ∷ bs) l = let h = lines_first (c ∷ bs) (omega arith) in grind (arith, nat_tests)
 
-pub unended_start : (mark : ℕ) (text : List ℕ) → Unended mark text 0
-unended_start mark text = record { first = refl; later = refl }
-
-pub never_ends : (mark : ℕ) (text : List ℕ) (i : ℕ) → length text ≤ i → Unended mark text i → (text ≡ first_part mark text) × ([] ≡ later_part mark text)
-never_ends mark text i l u =
-    let d = drop_all i text l in (
-      sym (u.first ∙ (ap (λ zs. take i text ++ first_part mark zs) d ∙ (append-nil (take i text) ∙ take_all i text l))),
-      sym (u.later ∙ ap (later_part mark) d),
-    )
-
+-- what follows a part is shorter than a text that is not empty
 later_most : (mark : ℕ) (text : List ℕ) → length (later_part mark text) ≤ length text
 later_most mark [] = omega arith
-later_most mark (b ∷ bs) = go (eqb b mark) refl (later_most mark bs)
-  where
-    go : (t : Bool) → eqb b mark ≡ t → length (later_part mark bs) ≤ length bs → length (later_part mark (b ∷ bs)) ≤ suc (length bs)
-    go true e h = rw e (omega arith)
-    go false e h = rw e (omega arith)
+later_most mark (b ∷ bs) = let h = later_most mark bs in grind (arith, nat_tests)
 
 pub later_shorter : (mark : ℕ) (text : List ℕ) → 0 < length text → length (later_part mark text) < length text
 later_shorter mark [] l = l
-later_shorter mark (b ∷ bs) l = go (eqb b mark) refl
-  where
-    go : (t : Bool) → eqb b mark ≡ t → length (later_part mark (b ∷ bs)) < suc (length bs)
-    go true e = rw e (omega arith)
-    go false e = let h = later_most mark bs in rw e (omega arith)
+later_shorter mark (b ∷ bs) l = let h = later_most mark bs in grind (arith, nat_tests)

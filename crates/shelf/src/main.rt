@@ -4,7 +4,7 @@
 
 use commands::{Output, admit};
 use console::Console;
-use lines::split_line;
+use lines::Lines;
 use std::io;
 use std::io::{BufWriter, Read, Write};
 
@@ -19,11 +19,8 @@ fn run(rt: &HostRuntime, input: &[u8]) -> io::Result<()> {
         return out.flush();
     }
     let mut console = Console::new();
-    let mut rest = input;
-    while !rest.is_empty() {
-        let (line, later) = split_line(rest);
+    for line in Lines::new(input) {
         out.write_all(console.answer(line).bytes())?;
-        rest = later;
     }
     out.flush()
 }

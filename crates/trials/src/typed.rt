@@ -1,7 +1,7 @@
 // Lines typed into a console.
 use commands::{Output, admit};
 use console::Console;
-use lines::split_line;
+use lines::Lines;
 use std::alloc::{AllocError, Global};
 use std::test::Fail;
 
@@ -9,11 +9,8 @@ use std::test::Fail;
 fn session(heap: Global, text: &[u8]) -> Result<Vec<u8>, AllocError> {
     let mut console = Console::new();
     let mut out = Vec::new(heap);
-    let mut rest = text;
-    while !rest.is_empty() {
-        let (line, later) = split_line(rest);
+    for line in Lines::new(text) {
         out.extend_from_slice(console.answer(line).bytes())?;
-        rest = later;
     }
     Ok(out)
 }

@@ -16,6 +16,8 @@ const ROOM: u8 = 32;
 
 const BASE: usize = 10;
 
+// `write!` may answer an error, and none of its clauses rules that out where the writer never fails, so the pieces are written
+// by calls of their own.
 impl Output {
     fn new() -> Output
         ensures { written result ≡ [] }
@@ -107,7 +109,7 @@ impl Output {
         ensures { Holds result (reply_text verb slot outcome.now ++ 10 ∷ []) }
     {
         let mut out = Output::new();
-        out.push(verb.letter());
+        out.push(verb.into());
         out.push(b' ');
         out.number(slot as usize);
         out.push(b' ');
@@ -121,7 +123,7 @@ impl Output {
         ensures { Holds result (codes "M ok" ++ 10 ∷ []) }
     {
         let mut out = Output::new();
-        out.push(Verb::Rename.letter());
+        out.push(Verb::Rename.into());
         out.text(b" ok\n");
         out
     }

@@ -29,30 +29,24 @@ impl Console {
             Ok(command) => command,
             Err(fault) => return Output::refused(&fault),
         };
-        match command {
-            Command::File { slot, text } => {
-                let outcome = file(&mut self.shelf, &self.map, slot, text);
-                Output::reply(Verb::File, slot, &outcome)
-            }
-            Command::Submit { slot, text } => {
-                let outcome = submit(&mut self.shelf, &self.map, slot, text);
-                Output::reply(Verb::Submit, slot, &outcome)
-            }
-            Command::Release { slot } => {
-                let outcome = release(&mut self.shelf, slot);
-                Output::reply(Verb::Release, slot, &outcome)
-            }
-            Command::Withdraw { slot } => {
-                let outcome = withdraw(&mut self.shelf, slot);
-                Output::reply(Verb::Withdraw, slot, &outcome)
-            }
+        let (verb, slot, outcome) = match command {
+            Command::File { slot, text } => (
+                Verb::File,
+                slot,
+                file(&mut self.shelf, &self.map, slot, text),
+            ),
+            Command::Submit { slot, text } => (
+                Verb::Submit,
+                slot,
+                submit(&mut self.shelf, &self.map, slot, text),
+            ),
+            Command::Release { slot } => (Verb::Release, slot, release(&mut self.shelf, slot)),
+            Command::Withdraw { slot } => (Verb::Withdraw, slot, withdraw(&mut self.shelf, slot)),
             Command::Rename { from, to } => {
-                match self.map.with(from, to) {
-                    Some(map) => self.map = map,
-                    None => unreachable(),
-                }
-                Output::renamed()
+                self.map = self.map.with(from, to).unwrap();
+                return Output::renamed();
             }
-        }
+        };
+        Output::reply(verb, slot, &outcome)
     }
 }

@@ -1,19 +1,27 @@
-use Rattle.std.proofs.Common.{◌≡◌, ◌+◌, ◌-◌, take, ap, ◌∙◌, arith}
-use Rattle.std.proofs.lemmas.List.{take_rest}
-use Rattle.lines.proofs.Splitting.{goes_on, ends_here, never_ends, later_shorter}
+use Rattle.std.proofs.Common.{ℕ, ◌==◌, length, sym, ◌∙◌, arith, rules, take_all}
+use Rattle.std.proofs.lemmas.List.{take_rest, drop_all}
+use Rattle.std.proofs.lemmas.List.Sums.{position_or_len_is}
+use Rattle.lines.proofs.Splitting.{first_part_is, later_part_is}
 use Rattle.lines.proofs.split_at_byte.Goals as goal
 
-pub returns-then-byte-mark : goal.returns-then-byte-mark
-returns-then-byte-mark c =
-    let h = ends_here c.args.mark c.args.text.now c.loop-at.at c.loop-at-test.true c.loop-at.invariant c.if-byte-mark.true in
-    let n : c.loop-at.at - 0 ≡ c.loop-at.at = omega arith in
-    let later = take_rest c.args.text.now (c.loop-at.at + 1) ∙ h.1 in
-    record { first = ap (λ k. take k c.args.text.now) n ∙ h.0; later = later; shorter = λ l. rw later (later_shorter c.args.mark c.args.text.now l) }
+pub returns-in-Some-clause-first : goal.returns-in-Some-clause-first
+returns-in-Some-clause-first c =
+    let text = c.args.text.now in
+    let at = position_or_len_is (λ (b : ℕ). b == c.args.mark) text c.in-Some.at 0 (search rules) (search rules) (search rules) in
+    rw at at (first_part_is c.args.mark text)
 
-pub loop-at-preserved : goal.loop-at-preserved
-loop-at-preserved c = goes_on c.args.mark c.args.text.now c.loop-at.at c.loop-at-test.true c.loop-at.invariant c.if-byte-mark.false
+pub returns-in-Some-clause-later : goal.returns-in-Some-clause-later
+returns-in-Some-clause-later c =
+    let text = c.args.text.now in
+    let at = position_or_len_is (λ (b : ℕ). b == c.args.mark) text c.in-Some.at 0 (search rules) (search rules) (search rules) in
+    take_rest text _ ∙ rw at at (later_part_is c.args.mark text)
 
-pub returns : goal.returns
-returns c =
-    let h = never_ends c.args.mark c.args.text.now c.loop-at.at c.loop-at-test.false c.loop-at.invariant in
-    record { first = h.0; later = h.1; shorter = λ l. l }
+pub returns-in-None : goal.returns-in-None
+returns-in-None c =
+    let text = c.args.text.now in
+    let none = position_or_len_is (λ (b : ℕ). b == c.args.mark) text (length text) 0 (omega arith) (search rules) (search rules) in
+    record {
+      first = sym (take_all _ text (omega arith)) ∙ rw none at (first_part_is c.args.mark text);
+      later = sym (drop_all _ text (omega arith)) ∙ rw none at (later_part_is c.args.mark text);
+      shorter = λ l. l;
+    }

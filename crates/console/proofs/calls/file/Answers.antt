@@ -1,14 +1,9 @@
 use Rattle.std.proofs.Common.{sym, lit≤}
 use Rattle.std.proofs.lemmas.Result.{err_from_is_err_and}
-use Rattle.lts.specs.Map.{mapped}
-use Rattle.lts.specs.Laws.Mapped.{mapped_lawful}
-use Rattle.terms.specs.Graph.{graph}
-use Rattle.terms.specs.Laws.Lawful.{term_lawful}
 use Rattle.terms.specs.Terms.{tree_of}
-use Rattle.lts.specs.Laws.Most.{wider}
 use Rattle.shelves.specs.Moves.{account_of}
 use Rattle.console.proofs.Lengths.{term_short, shelf_short}
-use Rattle.console.proofs.Outcomes.{unread_file, filed, unfiled}
+use Rattle.console.proofs.Outcomes.{lawful, unread_file, filed, unfiled}
 use Rattle.console.proofs.Places.{refusal_near}
 use Rattle.console.proofs.calls.file.Goals as goal
 
@@ -26,13 +21,11 @@ returns-in_err-file c =
     let map = c.args.map.now in
     let term = c.in_ok-term.term in
     let read = c.in_ok-term.ensures in
-    let law = wider (lit≤ tt) (mapped_lawful map.entries map.actions (graph (tree_of term)) (term_lawful term)) in
-    rw (p.1, p.2) (record { did = unfiled (account_of c.args.shelf.now) (account_of c.file.new.self) map.entries c.args.text.now c.args.slot (tree_of term) (sym read.refuses) read.spelled law f c.in_err-file.ensures.does; short = shelf_short f })
+    rw (p.1, p.2) (record { did = unfiled (account_of c.args.shelf.now) (account_of c.file.new.self) map.entries c.args.text.now c.args.slot (tree_of term) (sym read.refuses) read.spelled (lawful map term) f c.in_err-file.ensures.does; short = shelf_short f })
 
 pub returns : goal.returns
 returns c =
     let map = c.args.map.now in
     let term = c.in_ok-term.term in
     let read = c.in_ok-term.ensures in
-    let law = wider (lit≤ tt) (mapped_lawful map.entries map.actions (graph (tree_of term)) (term_lawful term)) in
-    record { did = filed (account_of c.args.shelf.now) (account_of c.file.new.self) map.entries c.args.text.now c.args.slot (tree_of term) (sym read.refuses) read.spelled law c.in_ok-file.ensures.does; short = lit≤ tt }
+    record { did = filed (account_of c.args.shelf.now) (account_of c.file.new.self) map.entries c.args.text.now c.args.slot (tree_of term) (sym read.refuses) read.spelled (lawful map term) c.in_ok-file.ensures.does; short = lit≤ tt }

@@ -15,5 +15,5 @@ returns c =
     let spaced = adds_then (written c.number.new.self) (32 ∷ []) (told ++ 10 ∷ []) c.push-3.ensures ended in
     let numbered = adds_then (written c.push-2.new.self) slot (32 ∷ (told ++ 10 ∷ [])) c.number.ensures spaced in
     let behind = adds_then (written c.push.new.self) (32 ∷ []) (slot ++ 32 ∷ (told ++ 10 ∷ [])) c.push-2.ensures numbered in
-    let first = c.push.ensures ∙ ap (λ l. take 32 (x ++ l ∷ [])) c.letter.ensures in
+    let first = c.push.ensures ∙ ap (λ l. take 32 (x ++ l ∷ [])) c.into.ensures in
     holds x (letter ∷ 32 ∷ (slot ++ 32 ∷ (told ++ 10 ∷ []))) c.new-out.ensures (adds_then x (letter ∷ []) (32 ∷ (slot ++ 32 ∷ (told ++ 10 ∷ []))) first behind) ∙ ap (λ z. take 32 (letter ∷ 32 ∷ z)) (sym (append_assoc slot (32 ∷ told) (10 ∷ [])))
