@@ -87,7 +87,7 @@ pub fn read_lines(numbers: &[u16], places: &mut [Line])
     requires { length numbers.now / 3 ≤ length places.old }
     ensures { take (length numbers.now / 3) places.new ≡ lines_of numbers.now }
 {
-    for k in 0..numbers.len() / 3 {
-        places[k] = line_of(numbers[3 * k], numbers[3 * k + 1], numbers[3 * k + 2]);
+    for (k, three) in numbers.chunks_exact(3).enumerate() {
+        places[k] = line_of(three[0], three[1], three[2]);
     }
 }
