@@ -3,7 +3,7 @@ use crate::{discard, update};
 use comparison::{Verdict, compare};
 use formulas::Line;
 use lts::Source;
-use refusals::Fault;
+use refusals::{Fault, Layer, Refusal};
 use shelves::{Numbers, Outcome, Shelf, ShelfCall, ShelfFault, run};
 use std::process::Abort;
 use std::test::Fail;
@@ -218,6 +218,15 @@ fn clearance(claim: u16) -> Numbers {
     }
 }
 
+// A refusal of a shelf, which has no place.
+fn refusal(number: u8) -> Refusal {
+    Refusal {
+        number,
+        layer: Layer::Shelf,
+        place: None,
+    }
+}
+
 // A list of calls run whole: a clearance is named by its claim, the first by 1.
 #[test]
 fn a_list_of_calls(rt: HostRuntime) -> Result<(), Fail> {
@@ -260,21 +269,21 @@ fn a_list_of_calls(rt: HostRuntime) -> Result<(), Fail> {
         },
     ];
     let expected = [
-        Outcome::Accepted,
-        Outcome::Different { depth: 2 },
-        Outcome::Refused { number: 25 },
-        Outcome::Same,
-        Outcome::Cleared {
+        Ok(Outcome::Accepted),
+        Ok(Outcome::Different { depth: 2 }),
+        Err(refusal(25)),
+        Ok(Outcome::Same),
+        Ok(Outcome::Cleared {
             clearance: clearance(1),
-        },
-        Outcome::Cleared {
+        }),
+        Ok(Outcome::Cleared {
             clearance: clearance(2),
-        },
-        Outcome::Refused { number: 29 },
-        Outcome::Accepted,
-        Outcome::Refused { number: 29 },
+        }),
+        Err(refusal(29)),
+        Ok(Outcome::Accepted),
+        Err(refusal(29)),
     ];
-    let mut answers = [Outcome::Accepted; 9];
+    let mut answers = [Ok(Outcome::Accepted); 9];
     assert!(rt; run(5, &calls, &mut answers[0..8]).is_none());
     assert!(rt; run(5, &calls, &mut answers).is_some());
     for (answer, outcome) in answers.iter().zip(expected.iter()) {

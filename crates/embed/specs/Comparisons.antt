@@ -3,9 +3,10 @@ use Rattle.std.specs.Prelude.{◌≡◌, ℕ, ◌*◌, ◌/◌, min, List, ◌++
 use Rattle.refusals.specs.declared.Refusal.{Refusal}
 use Rattle.lts.specs.Meaning.{Meaning}
 use Rattle.inputs.specs.Faults.{of_input}
-use Rattle.inputs.specs.Inputs.{first_refusal_of, Denotes}
+use Rattle.inputs.specs.Inputs.{first_refusal_of, Denotes, meaning_of}
 use Rattle.inputs.specs.declared.fault.InputFault.{InputFault}
 use Rattle.inputs.specs.declared.input.Input.{Input}
+use Rattle.inputs.specs.declared.parsed.Parsed.{Parsed}
 use Rattle.formulas.specs.declared.line.Line.{Line}
 use Rattle.formulas.specs.declared.line.Line.TheVariants.{True}
 use Rattle.comparison.specs.Compared.{Compared}
@@ -51,6 +52,16 @@ pub record Compares (left right : Meaning) (numbers classes : List ℕ) (answer 
   pub compared : Compared left right (room numbers) classes result lines classes'
   pub answered : answer ≡ told result
   pub numbered : numbers' ≡ numbers_of (take (written result) lines) ++ drop (3 * written result) numbers
+
+-- an input that was read, or what its refusal answers
+abbrev pub Read : ℕ → Input → Result Parsed Comparison → Type 0
+Read side x (Ok p) = (first_refusal_of x ≡ None) × Denotes x (meaning_of p)
+Read side x (Err told) = (f : InputFault) × (first_refusal_of x ≡ Some f) × (told ≡ refused_by side (of_input f))
+
+-- what is answered, whether it was refused or not
+abbrev pub either : Result Comparison Comparison → Comparison
+either (Ok told) = told
+either (Err told) = told
 
 -- both inputs denote procedures, which were compared
 pub record Weighed (x y : Input) (numbers classes : List ℕ) (answer : Comparison) (numbers' classes' : List ℕ) : Type 0 where

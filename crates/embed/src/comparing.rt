@@ -1,19 +1,20 @@
 // Two inputs compared.
 ghost use Rattle.std.specs.Prelude.{◌≡◌, ◌*◌, ◌≤◌, ◌++◌, length, take, drop};
 ghost use Rattle.inputs.specs.Inputs.{meaning_of};
-ghost use Rattle.embed.specs.Comparisons.{refused_by, compared_as, line_count, room, Compares, Answered};
+ghost use Rattle.embed.specs.Comparisons.{refused_by, compared_as, line_count, room, Compares, Read, either, Answered};
 ghost use Rattle.embed.specs.Numbers.{input_of, numbers_of};
 
 use crate::numbers::{given, layer_number, place_numbers, write_lines};
 use comparison::{Report, Verdict, compare};
 use formulas::Line;
-use inputs::Parsed;
+use inputs::{Input, Parsed};
 use refusals::{Fault, Refusal};
 
 // Enough for any two inputs, of 128 states each.
 const MOST_LINES: usize = 1021;
 
-// What a comparison answers. Where `number` is not 0 it was refused.
+// What a comparison answers. Where `number` is not 0 it was refused. It crosses to C, so it is all numbers, and 0 is what is
+// not told.
 #[repr(C)]
 #[derive(Clone, Copy)]
 pub struct Comparison {
@@ -116,6 +117,27 @@ fn compare_parsed(
     compare_into(left, right, &mut own[0..room], numbers, classes)
 }
 
+// Reads the input on a side; its refusal is already what C is answered.
+fn read_side(side: u8, input: Input<'_>) -> Result<Parsed, Comparison>
+    ensures { Read side input.entry result }
+{
+    Parsed::read(input).map_err(|fault| refused_by(side, fault.refusal()))
+}
+
+// Reads both inputs and compares them.
+fn compare_inputs(
+    left: Input<'_>,
+    right: Input<'_>,
+    numbers: &mut [u16],
+    classes: &mut [u16],
+) -> Result<Comparison, Comparison>
+    ensures { Answered left.entry right.entry numbers.old classes.old (either result) numbers.new classes.new }
+{
+    let left = read_side(1, left)?;
+    let right = read_side(2, right)?;
+    Ok(compare_parsed(&left, &right, numbers, classes))
+}
+
 // Reads both inputs and compares them. A line takes three numbers: its letter, and the two numbers behind it.
 #[unsafe(no_mangle)]
 pub extern "C" fn nabrotzu_compare(
@@ -129,11 +151,8 @@ pub extern "C" fn nabrotzu_compare(
 )
     ensures { Answered (input_of left_kind left.entry) (input_of right_kind right.entry) lines.old classes.old answer.new lines.new classes.new }
 {
-    *answer = match Parsed::read(given(left_kind, left)) {
-        Err(fault) => refused_by(1, fault.refusal()),
-        Ok(p) => match Parsed::read(given(right_kind, right)) {
-            Err(fault) => refused_by(2, fault.refusal()),
-            Ok(q) => compare_parsed(&p, &q, lines, classes),
-        },
+    let (left, right) = (given(left_kind, left), given(right_kind, right));
+    *answer = match compare_inputs(left, right, lines, classes) {
+        Ok(told) | Err(told) => told,
     };
 }

@@ -12,7 +12,8 @@ use refusals::{Fault, Refusal};
 // The most lines of a formula.
 const MOST_LINES: usize = 1024;
 
-// What an evaluation answers. Where `number` is not 0 it was refused.
+// What an evaluation answers. Where `number` is not 0 it was refused. It crosses to C, so it is all numbers, and 0 is what is
+// not told.
 #[repr(C)]
 #[derive(Clone, Copy)]
 pub struct Evaluation {

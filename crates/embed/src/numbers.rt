@@ -1,6 +1,6 @@
 // What crosses to C as numbers.
 ghost use Rattle.std.specs.Prelude.{◌≡◌, ◌*◌, ◌/◌, ◌≤◌, ◌++◌, length, take, drop};
-ghost use Rattle.embed.specs.Numbers.{input_of, layer_number, placed, place_number, letter_of, first_of, second_of, numbers_of, line_of, lines_of};
+ghost use Rattle.embed.specs.Numbers.{input_of, layer_number, placed, place_number, three, numbers_of, line_of, lines_of};
 
 use formulas::Line;
 use inputs::Input;
@@ -44,31 +44,27 @@ pub fn place_numbers(place: Option<usize>) -> (u8, u64)
 }
 
 // The character of a line's letter, and the two numbers behind it.
-fn line_numbers(line: Line) -> (u16, u16, u16)
-    ensures letter { result.0 ≡ letter_of line }
-    ensures first { result.1 ≡ first_of line }
-    ensures second { result.2 ≡ second_of line }
+fn line_numbers(line: Line) -> [u16; 3]
+    ensures { result ≡ three line }
 {
     match line {
-        Line::True => ('T' as u16, 0, 0),
-        Line::End => ('E' as u16, 0, 0),
-        Line::Not(i) => ('N' as u16, i, 0),
-        Line::Both(i, j) => ('A' as u16, i, j),
-        Line::Step(a, i) => ('D' as u16, a as u16, i),
-        Line::Unknown(c) => (c as u16, 0, 0),
+        Line::True => ['T' as u16, 0, 0],
+        Line::End => ['E' as u16, 0, 0],
+        Line::Not(i) => ['N' as u16, i, 0],
+        Line::Both(i, j) => ['A' as u16, i, j],
+        Line::Step(a, i) => ['D' as u16, u16::from(a), i],
+        Line::Unknown(c) => [u16::from(c), 0, 0],
     }
 }
 
-// Writes the lines as numbers, three a line, to the front of the places.
+// Writes the lines as numbers, three a line, to the front of the places. By index: what is written through `chunks_exact_mut`
+// no proof knows afterwards.
 pub fn write_lines(lines: &[Line], places: &mut [u16])
     requires { 3 * length lines.now ≤ length places.old }
     ensures { places.new ≡ numbers_of lines.now ++ drop (3 * length lines.now) places.old }
 {
     for (k, line) in lines.iter().enumerate() {
-        let (letter, first, second) = line_numbers(*line);
-        places[3 * k] = letter;
-        places[3 * k + 1] = first;
-        places[3 * k + 2] = second;
+        places[3 * k..3 * k + 3].copy_from_slice(&line_numbers(*line));
     }
 }
 
@@ -91,7 +87,7 @@ pub fn read_lines(numbers: &[u16], places: &mut [Line])
     requires { length numbers.now / 3 ≤ length places.old }
     ensures { take (length numbers.now / 3) places.new ≡ lines_of numbers.now }
 {
-    for k in 0..numbers.len() / 3 {
-        places[k] = line_of(numbers[3 * k], numbers[3 * k + 1], numbers[3 * k + 2]);
+    for (k, three) in numbers.chunks_exact(3).enumerate() {
+        places[k] = line_of(three[0], three[1], three[2]);
     }
 }

@@ -1,6 +1,7 @@
 -- What a call finds and leaves in the rows.
-use Rattle.std.proofs.Common.{◌≡◌, ℕ, zero, suc, ◌≤◌, false, List, [], ◌∷◌, get_or, is_some, Some, None, Ok, Option, sym, refl, ap, subst, arith}
-use Rattle.std.proofs.lemmas.Bool.{le-ltb}
+use Rattle.std.proofs.Common.{◌≡◌, ℕ, ◌<◌, ◌≤◌, false, List, [], get_or, replicate, is_some, Some, None, Ok, Option, sym, ap, subst, ⊎_elim, arith}
+use Rattle.std.proofs.lemmas.Bool.{le-ltb, cases_lt}
+use Rattle.std.proofs.lemmas.List.{get_or-replicate, get_or_past}
 use Rattle.lts.specs.Copying.{total}
 use Rattle.lts.specs.Layout.{Sound, stored}
 use Rattle.lts.specs.Meaning.{Meaning}
@@ -14,18 +15,10 @@ use Rattle.shelves.specs.declared.row.Row.{Row}
 
 -- empty slots
 abbrev pub empties : List (Option Row)
-empties = None ∷ None ∷ None ∷ None ∷ None ∷ None ∷ None ∷ None ∷ []
+empties = replicate 8 None
 
 pub empty_slot : (s : ℕ) → get_or empties s None ≡ None
-empty_slot zero = refl
-empty_slot (suc zero) = refl
-empty_slot (suc (suc zero)) = refl
-empty_slot (suc (suc (suc zero))) = refl
-empty_slot (suc (suc (suc (suc zero)))) = refl
-empty_slot (suc (suc (suc (suc (suc zero))))) = refl
-empty_slot (suc (suc (suc (suc (suc (suc zero)))))) = refl
-empty_slot (suc (suc (suc (suc (suc (suc (suc zero))))))) = refl
-empty_slot (suc (suc (suc (suc (suc (suc (suc (suc n)))))))) = refl
+empty_slot s = ⊎_elim (get_or-replicate 8 s None None) (get_or_past empties s None) (cases_lt s 8)
 
 pub new_account : (n : ℕ) → account n empties 0 ≡ new n
 new_account n = let e : (s : ℕ) → row_account (get_or empties s None) ≡ None = λ s. ap row_account (empty_slot s) in λ i. record { number = n; slots = λ s. e s i; made = 0 }
@@ -37,9 +30,9 @@ pub new_reached : (n : ℕ) → Reached n empties 0
 new_reached n = ([], subst (λ a. Run n [] a) (sym (new_account n)) start)
 
 -- an empty slot and a source that was copied
-pub filing_row : (n : ℕ) (rows : List (Option Row)) (made s : ℕ) (m : Meaning) (p : Procedure) → s ≤ 7 → is_some (get_or rows s None) ≡ false → total m ≤ 512 → Sound p → stored p ≡ m → Filing (account n rows made) s m (Ok (record { baseline = p; force = p; pending = None; latest = None }))
+pub filing_row : (n : ℕ) (rows : List (Option Row)) (made s : ℕ) (m : Meaning) (p : Procedure) → s < 8 → is_some (get_or rows s None) ≡ false → total m ≤ 512 → Sound p → stored p ≡ m → Filing (account n rows made) s m (Ok (record { baseline = p; force = p; pending = None; latest = None }))
 filing_row n rows made s m p l e t q f =
-    (rw (le-ltb 7 s l, empty (get_or rows s None) e, le-ltb 512 (total m) t), omega arith, record { base = q; force = (q, related_reflexive (stored p) 0); pending = tt; claim = tt }, ap (λ z. Some (fresh z)) f)
+    (rw (le-ltb 7 s (omega arith), empty (get_or rows s None) e, le-ltb 512 (total m) t), l, record { base = q; force = (q, related_reflexive (stored p) 0); pending = tt; claim = tt }, ap (λ z. Some (fresh z)) f)
   where
     empty : (o : Option Row) → is_some o ≡ false → is_some (row_account o) ≡ false
     empty None z = z

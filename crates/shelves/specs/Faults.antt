@@ -17,5 +17,9 @@ number_of Nothing = 27
 number_of Claims = 28
 number_of Clearance = 29
 
+-- a refusal of a shelf by its number; it has no place
+abbrev pub shelf_refusal : ℕ → Refusal
+shelf_refusal n = record { number = n; layer = Shelf; place = None }
+
 abbrev pub of_shelf : ShelfFault → Refusal
-of_shelf f = record { number = number_of f; layer = Shelf; place = None }
+of_shelf f = shelf_refusal (number_of f)

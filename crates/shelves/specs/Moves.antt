@@ -1,12 +1,12 @@
 -- What a call on a shelf promises.
-use Rattle.std.specs.Prelude.{◌≡◌, ℕ, ◌+◌, ◌<◌, ◌≤◌, Bool, true, false, List, ◌∷◌, take, is_some, Some, None, Ok, Err, Option, Result, slice_index_or}
+use Rattle.std.specs.Prelude.{◌≡◌, ◌⊎◌, ℕ, ◌+◌, ◌<◌, ◌≤◌, Bool, true, false, List, ◌∷◌, take, is_some, Some, None, Ok, Err, Option, Result, slice_index_or}
 use Rattle.lts.specs.Meaning.{Meaning}
 use Rattle.lts.specs.declared.procedure.Procedure.{Procedure}
-use Rattle.accounts.specs.Account.{Account, Filled, fresh}
+use Rattle.accounts.specs.Account.{Account, Filled, with_slot, fresh}
 use Rattle.accounts.specs.Calls.{Call, file, submit, claim, release, withdraw, clears, Answer, accepted, called_same, called_different, cleared, refused, refusal, Event, Does, Run}
 use Rattle.accounts.specs.Law.{Law}
 use Rattle.shelves.specs.Faults.{number_of}
-use Rattle.shelves.specs.Standing.{account, row_account, Keeps}
+use Rattle.shelves.specs.Standing.{account, filled, row_account, Keeps}
 use Rattle.shelves.specs.declared.clearance.Clearance.{Clearance}
 use Rattle.shelves.specs.declared.fault.ShelfFault.{ShelfFault}
 use Rattle.shelves.specs.declared.fault.ShelfFault.TheVariants.{Slot, Taken, Empty, Pending, Steps, Room, Different as Differs, Nothing, Claims, Clearance as Uncleared}
@@ -38,12 +38,35 @@ answer (Err f) = refused (number_of f)
 
 -- the answer of a claim
 abbrev pub claim_answer : Result Clearance ShelfFault → Answer
-claim_answer (Ok c) = cleared c.shelf c.slot c.claim
+claim_answer (Ok c) = cleared c.numbers.shelf c.numbers.slot c.numbers.claim
 claim_answer (Err f) = refused (number_of f)
 
 -- a row with a new claim
 abbrev pub claimed : Row → ℕ → Row
 claimed r k = record { baseline = r.baseline; force = r.force; pending = r.pending; latest = Some k }
+
+-- the one fault that carries a report
+abbrev pub reports : ShelfFault → Bool
+reports Slot = false
+reports Taken = false
+reports Empty = false
+reports Pending = false
+reports Steps = false
+reports Room = false
+reports (Differs report) = true
+reports Nothing = false
+reports Claims = false
+reports Uncleared = false
+
+-- what is in a slot
+abbrev pub Placed : List (Option Row) → ℕ → Result (Option Row) ShelfFault → Type 0
+Placed rows s (Ok o) = (s < 8) × (slice_index_or rows s None ≡ o)
+Placed rows s (Err f) = (7 < s) × (f ≡ Slot)
+
+-- the row of a slot that is taken, or the refusal of what needs one
+abbrev pub Found : Account → List (Option Row) → ℕ → Result Row ShelfFault → Type 0
+Found a rows s (Ok row) = (s < 8) × (slice_index_or rows s None ≡ Some row)
+Found a rows s (Err f) = (a.slots s ≡ None) × (reports f ≡ false) × ((m : Meaning) (l k : ℕ) → refusal a (submit s m l k) ≡ Some (number_of f)) × (refusal a (claim s) ≡ Some (number_of f))
 
 -- what filing m in slot s makes, or its refusal
 abbrev pub Filing : Account → ℕ → Meaning → Result Row ShelfFault → Type 0
@@ -57,18 +80,38 @@ Claiming a rows s (Err f) = refusal a (claim s) ≡ Some (number_of f)
 
 -- a clearance that was spent
 abbrev pub used_up : Clearance → Clearance
-used_up c = record { shelf = c.shelf; slot = c.slot; claim = c.claim; spent = true }
+used_up c = record { numbers = c.numbers; spent = true }
 
 abbrev pub release_by : Clearance → Call
-release_by c = release c.shelf c.slot c.claim
+release_by c = release c.numbers.shelf c.numbers.slot c.numbers.claim
 
 abbrev pub withdraw_by : Clearance → Call
-withdraw_by c = withdraw c.shelf c.slot c.claim
+withdraw_by c = withdraw c.numbers.shelf c.numbers.slot c.numbers.claim
+
+-- whether the shelf clears it
+abbrev pub cleared_by : Shelf → Clearance → Bool
+cleared_by x c = clears (account_of x) c.numbers.shelf c.numbers.slot c.numbers.claim
 
 -- the row of a clearance that is the slot's latest, with its pending procedure
 abbrev pub Cleared : Shelf → Clearance → Option (Row × Procedure) → Type 0
-Cleared x c None = clears (account_of x) c.shelf c.slot c.claim ≡ false
-Cleared x c (Some v) = (clears (account_of x) c.shelf c.slot c.claim ≡ true) × (c.slot < 8) × (slice_index_or x.slots.rows c.slot None ≡ Some v.0) × (v.0.pending ≡ Some v.1)
+Cleared x c None = cleared_by x c ≡ false
+Cleared x c (Some v) = (cleared_by x c ≡ true) × (c.numbers.slot < 8) × (slice_index_or x.slots.rows c.numbers.slot None ≡ Some v.0) × (v.0.pending ≡ Some v.1)
+
+-- the row with its pending procedure in force, and without what was pending and its claim
+abbrev pub forced : Row → Procedure → Row
+forced r p = record { baseline = r.baseline; force = p; pending = r.pending; latest = r.latest }
+
+abbrev pub settled : Row → Row
+settled r = record { baseline = r.baseline; force = r.force; pending = None; latest = None }
+
+-- a row is settled with its pending procedure in force, or with that which was
+abbrev pub Settles : (Row → Procedure → Row → Type 0) → Type 0
+Settles post = (r r' : Row) (p : Procedure) → post r p r' → (r' ≡ forced r p) ⊎ (r' ≡ r)
+
+-- The row of a clearance was settled, and no other changed; or the clearance isn't the slot's latest, and nothing changed.
+abbrev pub Spent : (Row → Procedure → Row → Type 0) → Shelf → Clearance → Result (Unit {0}) ShelfFault → Shelf → Type 0
+Spent post x c (Ok done) x' = (v : Row × Procedure) × (r : Row) × Cleared x c (Some v) × post v.0 v.1 r × (account_of x' ≡ with_slot (account_of x) c.numbers.slot (filled (settled r)))
+Spent post x c (Err f) x' = Cleared x c None × (f ≡ Uncleared) × (account_of x' ≡ account_of x)
 
 -- the formula that a verdict names among the lines
 abbrev pub told : Verdict → List Line → Formula
@@ -92,19 +135,6 @@ fault_answer Uncleared lines = refused 29
 abbrev pub submit_answer : Result Report ShelfFault → List Line → Answer
 submit_answer (Ok report) lines = called_same
 submit_answer (Err f) lines = fault_answer f lines
-
--- the one fault that carries a report
-abbrev pub reports : ShelfFault → Bool
-reports Slot = false
-reports Taken = false
-reports Empty = false
-reports Pending = false
-reports Steps = false
-reports Room = false
-reports (Differs report) = true
-reports Nothing = false
-reports Claims = false
-reports Uncleared = false
 
 -- an open slot's row and the copy of a source that may be compared with it; or the refusal, whatever room there is
 abbrev pub Admitted : Account → List (Option Row) → ℕ → Meaning → Result (Row × Procedure) ShelfFault → Type 0

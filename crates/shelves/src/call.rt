@@ -1,4 +1,5 @@
 // A call on a shelf as an entry of a list, and what it answered.
+use refusals::Refusal;
 
 // The numbers of a clearance. The k-th clearance that a shelf hands out has claim number k.
 #[derive(Clone, Copy, PartialEq, Eq, Debug)]
@@ -8,6 +9,7 @@ pub struct Numbers {
     pub claim: u16,
 }
 
+// A call with its arguments. A clearance is named by its numbers.
 #[derive(Drop)]
 pub enum ShelfCall<S> {
     File {
@@ -32,8 +34,10 @@ pub enum ShelfCall<S> {
     },
 }
 
+// What a call led to that was not refused.
 #[derive(Clone, Copy, PartialEq, Eq, Debug)]
 pub enum Outcome {
+    // A filing, a release or a withdrawal.
     Accepted,
     // A submission that is the same as what is in force.
     Same,
@@ -41,5 +45,7 @@ pub enum Outcome {
     Different { depth: u16 },
     // A claim, and the numbers of the clearance that it handed out.
     Cleared { clearance: Numbers },
-    Refused { number: u8 },
 }
+
+// What a call of a list answers.
+pub type Answer = Result<Outcome, Refusal>;

@@ -62,3 +62,11 @@ impl From<CompareFault> for ShelfFault {
         ShelfFault::Room
     }
 }
+
+impl From<ShelfFault> for Refusal {
+    ghost from_gives = { λ f r. r ≡ of_shelf f };
+
+    fn from(fault: ShelfFault) -> Refusal {
+        fault.refusal()
+    }
+}

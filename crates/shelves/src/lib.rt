@@ -10,7 +10,7 @@ pub mod runs;
 pub mod shelf;
 pub mod slots;
 
-pub use call::{Numbers, Outcome, ShelfCall};
+pub use call::{Answer, Numbers, Outcome, ShelfCall};
 pub use clearance::Clearance;
 pub use fault::ShelfFault;
 pub use runs::run;

@@ -1,23 +1,24 @@
 // A list of calls run on a new shelf.
-ghost use Rattle.std.specs.Prelude.{◌≡◌, min, map, Err};
+ghost use Rattle.std.specs.Prelude.{◌≡◌, min, map};
 ghost use Rattle.accounts.specs.Calls.{claim, submit};
-ghost use Rattle.shelves.specs.Moves.{account_of, answer};
-ghost use Rattle.shelves.specs.Runs.{call_of, outcome_of, fault_outcome, depth_of, Performed, Ran};
+ghost use Rattle.shelves.specs.Moves.{account_of};
+ghost use Rattle.shelves.specs.Runs.{call_of, fault_outcome, depth_of, Performed, Ran};
 
-use crate::call::{Outcome, ShelfCall};
+use crate::call::{Answer, Outcome, ShelfCall};
 use crate::clearance::Clearance;
 use crate::fault::ShelfFault;
 use crate::shelf::Shelf;
 use comparison::Verdict;
 use formulas::Line;
 use lts::Source;
-use refusals::Fault;
+use refusals::Refusal;
 
 // Enough for any two sources, of 128 states each.
 const MOST_LINES: usize = 1021;
 
 const MOST_CLASSES: usize = 256;
 
+// How many steps the formula of a verdict nests.
 fn depth(verdict: Verdict) -> u16
     ensures { result ≡ depth_of verdict }
 {
@@ -27,33 +28,15 @@ fn depth(verdict: Verdict) -> u16
     }
 }
 
-fn refused(fault: ShelfFault) -> Outcome
-    ensures { result ≡ outcome_of (answer (Err fault)) }
-{
-    Outcome::Refused {
-        number: fault.refusal().number,
-    }
-}
-
-// What a filing, a release or a withdrawal answered.
-fn settled(res: Result<(), ShelfFault>) -> Outcome
-    ensures { result ≡ outcome_of (answer res) }
-{
-    match res {
-        Ok(()) => Outcome::Accepted,
-        Err(fault) => refused(fault),
-    }
-}
-
 // What a submission answered that is not the same.
-fn unlike(fault: ShelfFault) -> Outcome
+fn unlike(fault: ShelfFault) -> Answer
     ensures { result ≡ fault_outcome fault }
 {
     match fault {
-        ShelfFault::Different(report) => Outcome::Different {
+        ShelfFault::Different(report) => Ok(Outcome::Different {
             depth: depth(report.verdict),
-        },
-        other => refused(other),
+        }),
+        other => Err(Refusal::from(other)),
     }
 }
 
@@ -65,7 +48,7 @@ impl Shelf {
         source: &S,
         lines: usize,
         classes: usize,
-    ) -> Outcome
+    ) -> Answer
         ensures { Performed (account_of self.old) (submit slot (S.meaning source.now) (min lines 1021) (min classes 256)) result (account_of self.new) }
     {
         let mut line_places = [Line::True; MOST_LINES];
@@ -73,28 +56,29 @@ impl Shelf {
         let lines = &mut line_places[0..lines.min(MOST_LINES)];
         let classes = &mut class_places[0..classes.min(MOST_CLASSES)];
         match self.submit(slot, source, lines, classes) {
-            Ok(_) => Outcome::Same,
+            Ok(_) => Ok(Outcome::Same),
             Err(fault) => unlike(fault),
         }
     }
 
-    fn claim_numbers(&mut self, slot: usize) -> Outcome
+    fn claim_numbers(&mut self, slot: usize) -> Answer
         ensures { Performed (account_of self.old) (claim slot) result (account_of self.new) }
     {
-        match self.claim(slot) {
-            Ok(clearance) => Outcome::Cleared {
-                clearance: clearance.numbers(),
-            },
-            Err(fault) => refused(fault),
-        }
+        let clearance = self.claim(slot)?;
+        Ok(Outcome::Cleared {
+            clearance: clearance.numbers(),
+        })
     }
 
     // One call of a list.
-    fn perform<const N: usize, S: Source<N>>(&mut self, call: &ShelfCall<S>) -> Outcome
-        ensures { Performed (account_of self.old) (call_of S.System.meaning call.now) result (account_of self.new) }
+    fn perform<const N: usize, S: Source<N>>(&mut self, call: &ShelfCall<S>) -> Answer
+        ensures { Performed (account_of self.old) (call_of S.Source.meaning call.now) result (account_of self.new) }
     {
         match call {
-            ShelfCall::File { slot, source } => settled(self.file(*slot, source)),
+            ShelfCall::File { slot, source } => {
+                self.file(*slot, source)?;
+                Ok(Outcome::Accepted)
+            }
             ShelfCall::Submit {
                 slot,
                 source,
@@ -103,12 +87,12 @@ impl Shelf {
             } => self.submit_within(*slot, source, *lines, *classes),
             ShelfCall::Claim { slot } => self.claim_numbers(*slot),
             ShelfCall::Release { clearance } => {
-                let mut clearance = Clearance::with(*clearance);
-                settled(self.release(&mut clearance))
+                self.release(&mut Clearance::with(*clearance))?;
+                Ok(Outcome::Accepted)
             }
             ShelfCall::Withdraw { clearance } => {
-                let mut clearance = Clearance::with(*clearance);
-                settled(self.withdraw(&mut clearance))
+                self.withdraw(&mut Clearance::with(*clearance))?;
+                Ok(Outcome::Accepted)
             }
         }
     }
@@ -119,7 +103,7 @@ impl Shelf {
 pub fn run<const N: usize, S: Source<N>>(
     number: u16,
     calls: &[ShelfCall<S>],
-    answers: &mut [Outcome],
+    answers: &mut [Answer],
 ) -> Option<Shelf>
     ensures { Ran number (map (call_of S.System.meaning) calls.now) answers.old result answers.new }
 {
@@ -127,6 +111,7 @@ pub fn run<const N: usize, S: Source<N>>(
         return None;
     }
     let mut shelf = Shelf::new(number);
+    // By index: no proof knows afterwards what is written through `iter_mut` beside the calls.
     for (k, call) in calls.iter().enumerate() {
         answers[k] = shelf.perform(call);
     }

@@ -3,8 +3,9 @@ ghost use Rattle.std.specs.Prelude.{◌≡◌, false, length, IfOk};
 ghost use Rattle.accounts.specs.Account.{new};
 ghost use Rattle.accounts.specs.Calls.{file, submit, claim};
 ghost use Rattle.lts.specs.Layout.{Sound, stored};
-ghost use Rattle.shelves.specs.Moves.{account_of, Moved, answer, claim_answer, submit_answer, Filing, Admitted, Weighing, Submitted, Claiming, Cleared, release_by, withdraw_by, used_up};
+ghost use Rattle.shelves.specs.Moves.{account_of, Moved, answer, claim_answer, submit_answer, Filing, Admitted, Weighing, Submitted, Placed, Found, Claiming, Cleared, Settles, Spent, release_by, withdraw_by, used_up};
 
+use crate::call::Numbers;
 use crate::clearance::Clearance;
 use crate::fault::ShelfFault;
 use crate::row::Row;
@@ -40,6 +41,20 @@ impl Shelf {
         }
     }
 
+    // What is in a slot.
+    fn place(&self, slot: usize) -> Result<Option<Row>, ShelfFault>
+        ensures { Placed self.now.slots.rows slot result }
+    {
+        self.slots.rows.get(slot).copied().ok_or(ShelfFault::Slot)
+    }
+
+    // The row of a slot that is taken.
+    fn taken(&self, slot: usize) -> Result<Row, ShelfFault>
+        ensures { Found (account_of self.now) self.now.slots.rows slot result }
+    {
+        self.place(slot)?.ok_or(ShelfFault::Empty)
+    }
+
     // The row that filing a source makes, or why it can't be filed.
     fn filing<const N: usize, S: Source<N>>(
         &self,
@@ -48,21 +63,16 @@ impl Shelf {
     ) -> Result<Row, ShelfFault>
         ensures { Filing (account_of self.now) slot (S.meaning source.now) result }
     {
-        if slot > 7 {
-            return Err(ShelfFault::Slot);
-        }
-        if self.slots.rows[slot].is_some() {
+        if self.place(slot)?.is_some() {
             return Err(ShelfFault::Taken);
         }
-        match copied(source) {
-            None => Err(ShelfFault::Steps),
-            Some(procedure) => Ok(Row {
-                baseline: procedure,
-                force: procedure,
-                pending: None,
-                latest: None,
-            }),
-        }
+        let procedure = copied(source).ok_or(ShelfFault::Steps)?;
+        Ok(Row {
+            baseline: procedure,
+            force: procedure,
+            pending: None,
+            latest: None,
+        })
     }
 
     // Copies a source into an empty slot, as its baseline and in force.
@@ -86,19 +96,12 @@ impl Shelf {
     ) -> Result<(Row, Procedure), ShelfFault>
         ensures { Admitted (account_of self.now) self.now.slots.rows slot (S.meaning source.now) result }
     {
-        if slot > 7 {
-            return Err(ShelfFault::Slot);
-        }
-        let Some(row) = self.slots.rows[slot] else {
-            return Err(ShelfFault::Empty);
-        };
+        let row = self.taken(slot)?;
         if row.pending.is_some() {
             return Err(ShelfFault::Pending);
         }
-        match copied(source) {
-            None => Err(ShelfFault::Steps),
-            Some(procedure) => Ok((row, procedure)),
-        }
+        let procedure = copied(source).ok_or(ShelfFault::Steps)?;
+        Ok((row, procedure))
     }
 
     // Compares the procedure in force with a source; where they are the same, the source is pending.
@@ -131,20 +134,13 @@ impl Shelf {
     fn claiming(&self, slot: usize) -> Result<Row, ShelfFault>
         ensures { Claiming (account_of self.now) self.now.slots.rows slot result }
     {
-        if slot > 7 {
-            return Err(ShelfFault::Slot);
-        }
-        let Some(row) = self.slots.rows[slot] else {
-            return Err(ShelfFault::Empty);
-        };
+        let row = self.taken(slot)?;
         if row.pending.is_none() {
             return Err(ShelfFault::Nothing);
         }
-        if self.claims >= 65535 {
-            return Err(ShelfFault::Claims);
-        }
+        let claim = self.claims.checked_add(1).ok_or(ShelfFault::Claims)?;
         Ok(Row {
-            latest: Some(self.claims + 1),
+            latest: Some(claim),
             ..row
         })
     }
@@ -157,32 +153,50 @@ impl Shelf {
         let row = self.claiming(slot)?;
         self.claims += 1;
         self.slots.put(slot, row);
-        Ok(Clearance {
+        Ok(Clearance::with(Numbers {
             shelf: self.number,
             slot: slot as u8,
             claim: self.claims,
-            spent: false,
-        })
+        }))
     }
 
     // The row that a clearance is for, and its pending procedure; nothing where the clearance isn't the slot's latest.
     fn cleared(&self, clearance: &Clearance) -> Option<(Row, Procedure)>
         ensures { Cleared self.now clearance.now result }
     {
-        let slot = clearance.slot as usize;
-        if clearance.shelf != self.number {
+        let Numbers { shelf, slot, claim } = clearance.numbers;
+        if shelf != self.number {
             return None;
         }
-        if slot > 7 {
-            return None;
-        }
-        let row = self.slots.rows[slot]?;
+        let row = self.taken(usize::from(slot)).ok()?;
         let latest = row.latest?;
         let procedure = row.pending?;
-        if latest != clearance.claim {
+        if latest != claim {
             return None;
         }
         Some((row, procedure))
+    }
+
+    // Spends a clearance. Its row is made anew, without what was pending and its claim.
+    fn spend<F: FnOnce(Row, Procedure) -> Row>(
+        &mut self,
+        clearance: &mut Clearance,
+        settle: F,
+    ) -> Result<(), ShelfFault>
+        requires callable { F.IsAlwaysCallable settle }
+        requires settles { Settles (F.post settle) }
+        ensures moved { Spent (F.post settle) self.old clearance.old result self.new }
+        ensures spent { clearance.new ≡ used_up clearance.old }
+    {
+        clearance.spent = true;
+        let (row, procedure) = self.cleared(clearance).ok_or(ShelfFault::Clearance)?;
+        let settled = Row {
+            pending: None,
+            latest: None,
+            ..settle(row, procedure)
+        };
+        self.slots.put(usize::from(clearance.numbers.slot), settled);
+        Ok(())
     }
 
     // Moves the pending procedure of a clearance into force.
@@ -191,18 +205,13 @@ impl Shelf {
         ensures moved { Moved (account_of self.old) (release_by clearance.old) (answer result) (account_of self.new) }
         ensures spent { clearance.new ≡ used_up clearance.old }
     {
-        clearance.spent = true;
-        let Some((row, procedure)) = self.cleared(clearance) else {
-            return Err(ShelfFault::Clearance);
-        };
-        let released = Row {
-            force: procedure,
-            pending: None,
-            latest: None,
-            ..row
-        };
-        self.slots.put(clearance.slot as usize, released);
-        Ok(())
+        self.spend(
+            clearance,
+            |row, procedure| Row {
+                force: procedure,
+                ..row
+            },
+        )
     }
 
     // Drops the pending procedure of a clearance.
@@ -211,16 +220,6 @@ impl Shelf {
         ensures moved { Moved (account_of self.old) (withdraw_by clearance.old) (answer result) (account_of self.new) }
         ensures spent { clearance.new ≡ used_up clearance.old }
     {
-        clearance.spent = true;
-        let Some((row, _)) = self.cleared(clearance) else {
-            return Err(ShelfFault::Clearance);
-        };
-        let withdrawn = Row {
-            pending: None,
-            latest: None,
-            ..row
-        };
-        self.slots.put(clearance.slot as usize, withdrawn);
-        Ok(())
+        self.spend(clearance, |row, _| row)
     }
 }

@@ -17,5 +17,5 @@ returns-in_err-release c = absurd (release_accepted c.in_ok-clearance.ensures.mo
 
 pub returns : goal.returns
 returns c =
-    let k = c.in_ok-clearance.clearance in
+    let k = c.in_ok-clearance.clearance.numbers in
     record { did = λ entries. released (account_of c.args.shelf.now) entries c.args.slot (account_of c.claim.new.self) (account_of c.release.new.self) k.shelf k.slot k.claim c.in_ok-clearance.ensures.moved.does c.in_ok-release.ensures.moved.does; short = lit≤ tt }

@@ -1,4 +1,4 @@
-use Rattle.std.proofs.Common.{◌≡◌, ◌*◌, ◌++◌, length, get_or, drop, refl, subst, arith}
+use Rattle.std.proofs.Common.{◌≡◌, ◌*◌, ◌++◌, length, get_or, drop, refl, ◌∙◌, subst, arith}
 use Rattle.std.proofs.lemmas.List.{take_all}
 use Rattle.formulas.specs.declared.line.Line.TheVariants.{True}
 use Rattle.embed.specs.Numbers.{numbers_of}
@@ -6,9 +6,7 @@ use Rattle.embed.proofs.Writing.{write_more}
 use Rattle.embed.proofs.numbers.write_lines.Goals as goal
 
 pub loop-k-preserved : goal.loop-k-preserved
-loop-k-preserved c =
-    let n = c.line_numbers-letter.ensures in
-    simp (n.letter, n.first, n.second) (write_more c.args.lines.now c.loop-k.k (get_or c.args.lines.now c.loop-k.k True) c.args.places.now c.loop-k.places c.loop-k-test.true (omega arith) refl c.loop-k.invariant)
+loop-k-preserved c = write_more c.args.lines.now c.loop-k.k (get_or c.args.lines.now c.loop-k.k True) c.args.places.now c.loop-k.places c.copy_from_slice.new.self c.loop-k-test.true refl c.loop-k.invariant (c.copy_from_slice.ensures.after ∙ c.line_numbers.ensures)
 
 pub returns : goal.returns
 returns c =

@@ -1,4 +1,4 @@
-use Rattle.embed.proofs.Sessions.{put_is}
+use Rattle.embed.proofs.Writing.{put_is}
 use Rattle.embed.proofs.typing.put.Goals as goal
 
 pub returns : goal.returns

@@ -25,4 +25,4 @@ returns c =
     let x = c.args.self.now in
     let f = c.in_ok-row.ensures in
     let k = x.claims + 1 in
-    record { moved = moves {c = claim c.args.slot} tt (put_does x.number x.claims k x.slots.rows c.put.new.self.rows c.args.slot c.in_ok-row.row (with_claim (filled f.3.0) k) (claim c.args.slot) (cleared x.number c.args.slot k) f.1 x.room c.put.ensures (claimed_means f.3.0 c.in_ok-row.row k f.3.3) tt (claims f.0 (slot_of x.number x.claims x.slots.rows c.args.slot f.3.0 f.3.1))); unspent = refl }
+    rw c.with.ensures (record { moved = moves {c = claim c.args.slot} tt (put_does x.number x.claims k x.slots.rows c.put.new.self.rows c.args.slot c.in_ok-row.row (with_claim (filled f.3.0) k) (claim c.args.slot) (cleared x.number c.args.slot k) f.1 x.room c.put.ensures (claimed_means f.3.0 c.in_ok-row.row k f.3.3) tt (claims f.0 (slot_of x.number x.claims x.slots.rows c.args.slot f.3.0 f.3.1))); unspent = refl })

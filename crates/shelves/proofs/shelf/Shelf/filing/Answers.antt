@@ -1,8 +1,8 @@
-use Rattle.std.proofs.Common.{sym}
+use Rattle.std.proofs.Common.{rules}
 use Rattle.shelves.proofs.Rows.{filing_row}
 use Rattle.shelves.proofs.shelf.Shelf.filing.Goals as goal
 
-pub returns-in-Some : goal.returns-in-Some
-returns-in-Some g c =
-    let p = c.in-Some.ensures in
-    filing_row c.args.self.now.number c.args.self.now.slots.rows c.args.self.now.claims c.args.slot (g.S.System.meaning c.args.source.now) c.in-Some.procedure c.if-slot-gt7.false (sym c.if-is_some.ensures) p.0 p.1 p.2
+pub returns : goal.returns
+returns g c =
+    let x = c.args.self.now in
+    filing_row x.number x.slots.rows x.claims c.args.slot (g.S.Source.meaning c.args.source.now) c.in_ok-procedure.procedure c.in_ok-place.ensures.0 (search rules) (search rules) (search rules) (search rules)
