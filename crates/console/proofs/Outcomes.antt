@@ -1,7 +1,7 @@
 -- What each way of a command is handled as.
 use Rattle.std.proofs.Common.{◌≡◌, ℕ, List, [], ◌++◌, Some, None, Ok, Err, codes, decimal, refl, ap, ◌∙◌, subst, lit≤}
 use Rattle.lts.specs.Laws.Mapped.{mapped_lawful}
-use Rattle.lts.specs.Laws.Most.{lawful_most}
+use Rattle.lts.specs.Laws.Most.{wider}
 use Rattle.lts.specs.Map.{mapped}
 use Rattle.lts.specs.Meaning.{Meaning, Lawful}
 use Rattle.lts.specs.declared.action_map.ActionMap.{ActionMap}
@@ -40,7 +40,7 @@ unlike (shelf.differs {x = x} e q u g) = (x, q, u)
 
 -- a term, as a map has it, keeps what every source keeps
 pub lawful : (map : ActionMap) (term : Read) → Lawful 128 (mapped map.entries (graph (tree_of term)))
-lawful map term = lawful_most 64 (mapped map.entries (graph (tree_of term))) (lit≤ tt) (mapped_lawful map.entries map.actions (graph (tree_of term)) (term_lawful term))
+lawful map term = wider (lit≤ tt) (mapped_lawful map.entries map.actions (graph (tree_of term)) (term_lawful term))
 
 -- a fault without a report is told by its number
 plain_answer : (f : ShelfFault) (lines : List Line) → ((report : Report) → f ≡ Differs report → ⊥) → fault_answer f lines ≡ refused (number_of f)
