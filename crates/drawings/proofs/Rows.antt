@@ -49,9 +49,6 @@ module _ (m : Meaning) (s n : ℕ) (short : length (m.steps s) ≤ 4096) (counte
   pub plain_transitions : m.ends s ≡ false → (n ≡ transitions_of m s) × (n ≤ 4097)
   plain_transitions e = (rw e (omega arith), omega arith)
 
-counting_more : (s : ℕ) → range_with_len 0 (s + 1) ≡ range_with_len 0 s ++ s ∷ []
-counting_more s = sym (map-id (range_with_len 0 (s + 1))) ∙ (map-range_with_len_more (λ (x : ℕ). x) 0 s s (zero-add s) ∙ ap (λ xs. xs ++ s ∷ []) (map-id (range_with_len 0 s)))
-
 -- the transitions of a procedure are few
 pub transitions_few : {most : ℕ} (m : Meaning) → Lawful most m → most ≤ 128 → sum_by (transitions_of m) (range_with_len 0 m.count) < 2 ^ 64
 transitions_few m lawful low =
@@ -67,10 +64,6 @@ transitions_few m lawful low =
 -- one row, from its pieces
 pub row_whole : (form : Form) (m : Meaning) (s : ℕ) (end silent : Bool) (out out₁ out₂ out₃ : List ℕ) → end ≡ m.ends s → silent ≡ eqb (length (m.steps s)) 0 → out₁ ≡ out ++ state_text form s end silent → out₂ ≡ out₁ ++ steps_text form s (not end) (m.steps s) → out₃ ≡ out₂ ++ foot_text form → out₃ ≡ out ++ row_text form m s
 row_whole form m s end silent out out₁ out₂ out₃ e q a b c = rw (← e, ← q, c, b, a) (simp append_assoc)
-
--- one row more
-pub rows_more : (form : Form) (m : Meaning) (s : ℕ) (first out out' : List ℕ) → out ≡ first ++ flat_map (row_text form m) (range_with_len 0 s) → out' ≡ out ++ row_text form m s → out' ≡ first ++ flat_map (row_text form m) (range_with_len 0 (s + 1))
-rows_more form m s first out out' e f = f ∙ (ap (λ z. z ++ row_text form m s) e ∙ (flat_map_more (row_text form m) first (range_with_len 0 s) s ∙ ap (λ z. first ++ flat_map (row_text form m) z) (sym (counting_more s))))
 
 -- the whole, from its pieces
 pub drawing_whole : (form : Form) (m : Meaning) (t n s : ℕ) (out out₁ out₂ out₃ : List ℕ) → t ≡ transitions m → n ≡ m.count → s ≡ m.count → out₁ ≡ out ++ head_text form t n → out₂ ≡ out₁ ++ flat_map (row_text form m) (range_with_len 0 s) → out₃ ≡ out₂ ++ last_text form → out₃ ≡ out ++ drawing form m

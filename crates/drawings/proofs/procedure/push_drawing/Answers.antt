@@ -1,11 +1,13 @@
 use Rattle.std.proofs.Common.{string_bytes, arith}
 use Rattle.std.proofs.lemmas.Result.{on_ok_weaker}
-use Rattle.drawings.proofs.Rows.{rows_more, drawing_whole}
+use Rattle.drawings.specs.Texts.{row_text}
+use Rattle.drawings.proofs.Counting.{texts_more}
+use Rattle.drawings.proofs.Rows.{drawing_whole}
 use Rattle.drawings.proofs.procedure.push_drawing.Goals as goal
 
 pub loop-s-preserved : goal.loop-s-preserved
 loop-s-preserved g c =
-    rows_more c.args.form (g.S.Source.meaning c.args.source.now) c.loop-s.s (string_bytes c.push_head.new.out) (string_bytes c.loop-s.out) (string_bytes c.push_row.new.out) c.loop-s.invariant c.in_ok-push_row.ensures
+    texts_more (row_text c.args.form (g.S.Source.meaning c.args.source.now)) c.loop-s.s (string_bytes c.push_head.new.out) (string_bytes c.loop-s.out) (string_bytes c.push_row.new.out) c.loop-s.invariant c.in_ok-push_row.ensures
 
 pub returns : goal.returns
 returns g c =

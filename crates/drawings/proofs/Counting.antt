@@ -8,6 +8,6 @@ pub counting_more : (s : ℕ) → range_with_len 0 (s + 1) ≡ range_with_len 0 
 counting_more s = sym (map-id (range_with_len 0 (s + 1))) ∙ (map-range_with_len_more (λ (x : ℕ). x) 0 s s (zero-add s) ∙ ap (λ xs. xs ++ s ∷ []) (map-id (range_with_len 0 s)))
 
 -- one text more
-pub texts_more : (text : ℕ → List ℕ) (s : ℕ) (first out piece out' : List ℕ) → out ≡ first ++ flat_map text (range_with_len 0 s) → piece ≡ text s → out' ≡ out ++ piece → out' ≡ first ++ flat_map text (range_with_len 0 (s + 1))
-texts_more text s first out piece out' e p o =
-    o ∙ ((λ i. e i ++ p i) ∙ (flat_map_more text first (range_with_len 0 s) s ∙ ap (λ z. first ++ flat_map text z) (sym (counting_more s))))
+pub texts_more : (text : ℕ → List ℕ) (s : ℕ) (first out out' : List ℕ) → out ≡ first ++ flat_map text (range_with_len 0 s) → out' ≡ out ++ text s → out' ≡ first ++ flat_map text (range_with_len 0 (s + 1))
+texts_more text s first out out' e o =
+    o ∙ (ap (λ z. z ++ text s) e ∙ (flat_map_more text first (range_with_len 0 s) s ∙ ap (λ z. first ++ flat_map text z) (sym (counting_more s))))
