@@ -36,6 +36,12 @@ letter_bound (small l h) = omega arith
 letter_bound (capital l h) = omega arith
 letter_bound (digit l h) = omega arith
 
+-- no action has this character
+pub no_letter : {c a : ℕ} → (97 ≤ c → c ≤ 122 → ⊥) → (65 ≤ c → c ≤ 90 → ⊥) → (48 ≤ c → c ≤ 57 → ⊥) → Letter c a → ⊥
+no_letter s k d (small l h) = s l h
+no_letter s k d (capital l h) = k l h
+no_letter s k d (digit l h) = d l h
+
 -- the character of each action
 pub small_letter : (a : ℕ) → a ≤ 25 → Letter (97 + a) a
 small_letter a h = let e : 97 + a - 97 ≡ a = omega arith in subst (Letter (97 + a)) e (small (omega arith) (omega arith))
