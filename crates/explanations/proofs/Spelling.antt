@@ -35,30 +35,24 @@ module _ (lines : List Line) (well : Wellformed lines) (i : ℕ) (inside : i < l
   pub is_step : (a j : ℕ) → get_or lines i True ≡ Step a j → (a ≤ 63) × (j < i) × (formula lines i ≡ D a (formula lines j))
   is_step a j e = let p = and_parts _ _ (fit (Step a j) e) in (leb-true a 63 p.0, ltb-true j i p.1, made (Step a j) e)
 
-  pub true_length : get_or lines i True ≡ True → length (formula_text (formula lines i)) ≡ 1
-  true_length e = ap (λ f. length (formula_text f)) (is_true e)
+-- how long a text is, by its letter
+pub true_length : (f : Formula) → f ≡ T → length (formula_text f) ≡ 1
+true_length f e = rw e refl
 
-  pub end_length : get_or lines i True ≡ End → length (formula_text (formula lines i)) ≡ 1
-  end_length e = ap (λ f. length (formula_text f)) (is_end e)
+pub end_length : (f : Formula) → f ≡ E → length (formula_text f) ≡ 1
+end_length f e = rw e refl
 
-  pub not_length : (j : ℕ) → get_or lines i True ≡ Not j → length (formula_text (formula lines i)) ≡ 1 + length (formula_text (formula lines j))
-  not_length j e = let n = ap (λ f. length (formula_text f)) (is_not j e).1 in omega arith
+pub not_length : (f g : Formula) → f ≡ N g → length (formula_text f) ≡ 1 + length (formula_text g)
+not_length f g e = rw e (omega arith)
 
-  pub both_length : (j k : ℕ) → get_or lines i True ≡ Both j k → length (formula_text (formula lines i)) ≡ 5 + (length (formula_text (formula lines j)) + length (formula_text (formula lines k)))
-  both_length j k e =
-      let x = formula_text (formula lines j) in
-      let y = formula_text (formula lines k) in
-      let n = ap (λ f. length (formula_text f)) (is_both j k e).2 in
-      let a = length-append x (codes " & " ++ (y ++ codes ")")) in
-      let b = length-append y (codes ")") in
-      omega arith
+pub both_length : (f g h : Formula) → f ≡ A g h → length (formula_text f) ≡ 5 + (length (formula_text g) + length (formula_text h))
+both_length f g h e =
+    let a = length-append (formula_text g) (codes " & " ++ (formula_text h ++ codes ")")) in
+    let b = length-append (formula_text h) (codes ")") in
+    rw e (omega arith)
 
-  pub step_length : (a j : ℕ) → get_or lines i True ≡ Step a j → length (formula_text (formula lines i)) ≡ (2 + length (action_text a)) + length (formula_text (formula lines j))
-  step_length a j e =
-      let x = formula_text (formula lines j) in
-      let n = ap (λ f. length (formula_text f)) (is_step a j e).2 in
-      let b = length-append (action_text a) (codes ">" ++ x) in
-      omega arith
+pub step_length : (f : Formula) (a : ℕ) (g : Formula) → f ≡ D a g → length (formula_text f) ≡ (2 + length (action_text a)) + length (formula_text g)
+step_length f a g e = let b = length-append (action_text a) (codes ">" ++ formula_text g) in rw e (omega arith)
 
 -- a letter is one byte
 pub letter_length : {c a : ℕ} → Letter c a → length (action_text a) ≡ 1

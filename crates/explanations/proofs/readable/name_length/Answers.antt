@@ -1,6 +1,6 @@
 use Rattle.std.proofs.Common.{sym}
 use Rattle.explanations.proofs.Spelling.{letter_length, number_length}
-use Rattle.explanations.proofs.formula.name_length.Goals as goal
+use Rattle.explanations.proofs.readable.name_length.Goals as goal
 
 pub returns-in-Some : goal.returns-in-Some
 returns-in-Some c = sym (letter_length c.in-Some.ensures)
