@@ -1,20 +1,17 @@
 -- A way is followed step by step.
-use Rattle.std.proofs.Common.{◌≡◌, ℕ, ◌+◌, ◌*◌, ◌<◌, ◌≤◌, List, [], ◌∷◌, ◌++◌, length, get_or, take, drop, Some, None, Option, sym, refl, ap, ◌∙◌, subst, inl, inr, append_assoc, append-nil, add-mul, one-mul, arith}
+use Rattle.std.proofs.Common.{◌≡◌, ℕ, ◌+◌, ◌*◌, ◌<◌, ◌≤◌, List, [], ◌∷◌, ◌++◌, length, get_or, take, drop, Some, None, Option, sym, refl, ap, ◌∙◌, subst, inl, inr, append_assoc, append-nil, arith}
 use Rattle.std.specs.List.{slice_get}
-use Rattle.std.proofs.lemmas.Nat.{mul-le}
-use Rattle.std.proofs.lemmas.List.{get_or-drop, flat_map_more, take_more}
+use Rattle.std.proofs.lemmas.List.{get_or-drop, take_more}
 use Rattle.lts.specs.Meaning.{Meaning, Lawful}
 use Rattle.lts.specs.Laws.Member.{nth_in, in_nth}
 use Rattle.theory.specs.Formulas.{Formula, T, E, N, A, D, Holds}
 use Rattle.formulas.specs.declared.fault.EvaluationFault.{EvaluationFault}
 use Rattle.formulas.specs.declared.line.Line.{Line}
-use Rattle.formulas.specs.declared.line.Line.TheVariants.{True, End, Not, Both, Step}
 use Rattle.formulas.specs.Faults.{first_fault}
 use Rattle.formulas.proofs.Rows.{not_refused}
 use Rattle.formulas.specs.Evaluation.{Marks}
 use Rattle.formulas.specs.Lines.{Wellformed, formula}
-use Rattle.explanations.specs.Ways.{first_of, lead, First, FirstMarked, Marked, Way, offset_text, way_text, move_text, moves_text}
-use Rattle.listings.specs.Offsets.{action_offset}
+use Rattle.explanations.specs.Ways.{first_of, lead, First, FirstMarked, Marked, Way, move_text, moves_text}
 use Rattle.explanations.specs.declared.formula.FormulaLine.{FormulaLine}
 use Rattle.explanations.specs.Parts.{Leads}
 
@@ -88,15 +85,6 @@ module _ (m : Meaning) {most : ℕ} (lawful : Lawful most m) (lines : List Line)
 pub way_whole : (m : Meaning) (lines : List Line) (start : ℕ) (steps : List (ℕ × ℕ)) (s i : ℕ) → Underway m lines start steps s i → lead (formula lines i) ≡ None → Way m 0 (formula lines start) steps
 way_whole m lines start steps s i u e = subst (λ xs. Way m 0 (formula lines start) xs) (append-nil steps) (u.goes_on [] e)
 
--- the row of line j lies inside the marks
-pub row_inside : (m : Meaning) (lines : List Line) (work : List ℕ) (n j : ℕ) → Marked m lines work → n ≡ m.count → j < length lines → j * n + n ≤ length work
-row_inside m lines work n j marked e h =
-    let a = mul-le (j + 1) m.count (length lines) m.count (omega arith) (omega arith) in
-    let b = add-mul j 1 m.count in
-    let c = one-mul m.count in
-    let d = marked.room in
-    rw e (omega arith)
-
 -- the evaluation is not refused
 pub not_refused_at_start : (m : Meaning) {most : ℕ} (lawful : Lawful most m) (lines : List Line) (i room : ℕ) (fault : EvaluationFault) → Wellformed lines → length lines ≤ 1024 → i < length lines → length lines * m.count ≤ room → first_fault lines i 0 m.count room ≡ Some fault → ⊥
 not_refused_at_start m lawful lines i room fault w f l r e =
@@ -104,12 +92,6 @@ not_refused_at_start m lawful lines i room fault w f l r e =
     let n = not_refused lines i 0 m.count room (record { some = omega arith; few = f; wellformed = w; line = l; state = omega arith; fits = r }) in
     let z : ◌≡◌ {A = ℕ} 0 1 = cc in
     omega arith
-
--- one offset more is told
-pub offset_more : (text : List ℕ) (steps : List (ℕ × ℕ)) (k : ℕ) (first out out' : List ℕ) → k < length steps → out ≡ first ++ way_text text (take k steps) → out' ≡ out ++ offset_text (get_or steps k (0, 0)).0 (action_offset text (get_or steps k (0, 0)).1) → out' ≡ first ++ way_text text (take (k + 1) steps)
-offset_more text steps k first out out' h e f =
-    let tell : ℕ × ℕ → List ℕ = λ step. offset_text step.0 (action_offset text step.1) in
-    f ∙ (ap (λ z. z ++ tell (get_or steps k (0, 0))) e ∙ (flat_map_more tell first (take k steps) (get_or steps k (0, 0)) ∙ ap (λ z. first ++ way_text text z) (sym (take_more steps k (0, 0) h))))
 
 -- where the steps lead from state s
 abbrev pub reached : ℕ → List (ℕ × ℕ) → ℕ

@@ -6,7 +6,7 @@ use Rattle.theory.specs.Formulas.{Formula, T, E, N, A, D, Holds}
 use Rattle.drawings.specs.Texts.{action_text}
 use Rattle.formulas.specs.declared.line.Line.{Line}
 use Rattle.formulas.specs.Evaluation.{RowsMarked}
-use Rattle.formulas.specs.Lines.{Wellformed, formula}
+use Rattle.formulas.specs.Lines.{Wellformed}
 use Rattle.listings.specs.Offsets.{action_offset}
 
 -- the first of two answers

@@ -15,7 +15,8 @@ const MOST_BYTES: usize = 400;
 // How many bytes the name of an action has.
 fn name_length(action: u8) -> usize
     requires { action ≤ 63 }
-    ensures { result ≡ length (action_text action) }
+    ensures length { result ≡ length (action_text action) }
+    ensures short { result ≤ 3 }
 {
     match letter(action) {
         Some(_) => 1,

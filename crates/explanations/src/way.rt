@@ -99,12 +99,7 @@ pub fn way<const N: usize, S: Source<N>>(
 }
 
 // Where the action of a step stands in the left text.
-fn push_offset(
-    out: &mut String,
-    text: &[u8],
-    action: u8,
-    target: u8,
-) -> Result<(), AllocError>
+fn push_offset(out: &mut String, text: &[u8], action: u8, target: u8) -> Result<(), AllocError>
     ensures { OnOk result (string_bytes out.new ≡ string_bytes out.old ++ offset_text action (action_offset text.now target)) }
 {
     match action_offset(text, target as usize) {

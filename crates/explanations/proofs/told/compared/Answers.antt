@@ -1,5 +1,4 @@
-use Rattle.std.proofs.Common.{◌≤◌, arith, rules}
-use Rattle.std.proofs.lemmas.List.{length-replicate}
+use Rattle.std.proofs.Common.{arith}
 use Rattle.explanations.proofs.Telling.{reported_tellable}
 use Rattle.explanations.proofs.told.compared.Goals as goal
 
