@@ -1,2 +1,3 @@
 pub mod Characters
+pub mod Counting
 pub mod Rows

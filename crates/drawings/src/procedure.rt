@@ -23,76 +23,86 @@ impl fmt::Display for ActionName {
     }
 }
 
-fn head(heap: Global, form: Form, transitions: usize, states: usize) -> Result<String, AllocError>
-    ensures { IfOk result (λ t. string_bytes t ≡ head_text form transitions states) }
+fn push_head(
+    out: &mut String,
+    form: Form,
+    transitions: usize,
+    states: usize,
+) -> Result<(), AllocError>
+    ensures { OnOk result (string_bytes out.new ≡ string_bytes out.old ++ head_text form transitions states) }
 {
     match form {
-        Form::Table => Ok(String::new(heap)),
-        Form::Dot => String::from_str(
-            heap,
-            "digraph procedure {\n  rankdir=LR;\n  node [shape=circle];\n  start [shape=point];\n  start -> 0;\n",
+        Form::Table => Ok(()),
+        Form::Dot => write!(
+            out,
+            "digraph procedure {{\n  rankdir=LR;\n  node [shape=circle];\n  start [shape=point];\n  start -> 0;\n"
         ),
-        Form::Aut => format!(in heap; "des (0, {transitions}, {states})\n"),
+        Form::Aut => write!(out, "des (0, {transitions}, {states})\n"),
     }
 }
 
 // The start of state s; silent where it lists no step.
-fn state(heap: Global, form: Form, s: usize, end: bool, silent: bool) -> Result<String, AllocError>
-    ensures { IfOk result (λ t. string_bytes t ≡ state_text form s end silent) }
+fn push_state(
+    out: &mut String,
+    form: Form,
+    s: usize,
+    end: bool,
+    silent: bool,
+) -> Result<(), AllocError>
+    ensures { OnOk result (string_bytes out.new ≡ string_bytes out.old ++ state_text form s end silent) }
 {
     match form {
-        Form::Table if end => format!(in heap; "state {s}: end"),
-        Form::Table if silent => format!(in heap; "state {s}: deadlock"),
-        Form::Table => format!(in heap; "state {s}"),
-        Form::Dot if end => format!(in heap; "  {s} [shape=doublecircle];\n"),
-        Form::Dot => format!(in heap; "  {s};\n"),
-        Form::Aut if end => format!(in heap; "({s}, \"end\", {s})\n"),
-        Form::Aut => Ok(String::new(heap)),
+        Form::Table if end => write!(out, "state {s}: end"),
+        Form::Table if silent => write!(out, "state {s}: deadlock"),
+        Form::Table => write!(out, "state {s}"),
+        Form::Dot if end => write!(out, "  {s} [shape=doublecircle];\n"),
+        Form::Dot => write!(out, "  {s};\n"),
+        Form::Aut if end => write!(out, "({s}, \"end\", {s})\n"),
+        Form::Aut => Ok(()),
     }
 }
 
 // A step out of state s; fresh where nothing is told of s yet.
-fn step(
-    heap: Global,
+fn push_step(
+    out: &mut String,
     form: Form,
     s: usize,
     fresh: bool,
     action: u8,
     target: u8,
-) -> Result<String, AllocError>
-    ensures { IfOk result (λ t. string_bytes t ≡ step_text form s fresh (action, target)) }
+) -> Result<(), AllocError>
+    ensures { OnOk result (string_bytes out.new ≡ string_bytes out.old ++ step_text form s fresh (action, target)) }
 {
     let action = ActionName(action);
     match form {
-        Form::Table if fresh => format!(in heap; ": {action} -> {target}"),
-        Form::Table => format!(in heap; ", {action} -> {target}"),
-        Form::Dot => format!(in heap; "  {s} -> {target} [label=\"{action}\"];\n"),
-        Form::Aut => format!(in heap; "({s}, \"{action}\", {target})\n"),
+        Form::Table if fresh => write!(out, ": {action} -> {target}"),
+        Form::Table => write!(out, ", {action} -> {target}"),
+        Form::Dot => write!(out, "  {s} -> {target} [label=\"{action}\"];\n"),
+        Form::Aut => write!(out, "({s}, \"{action}\", {target})\n"),
     }
 }
 
-fn foot(form: Form) -> &'static str
-    ensures { result.now ≡ foot_text form }
+fn push_foot(out: &mut String, form: Form) -> Result<(), AllocError>
+    ensures { OnOk result (string_bytes out.new ≡ string_bytes out.old ++ foot_text form) }
 {
     match form {
-        Form::Table => "\n",
-        Form::Dot | Form::Aut => "",
+        Form::Table => out.push_str("\n"),
+        Form::Dot | Form::Aut => Ok(()),
     }
 }
 
-fn last(form: Form) -> &'static str
-    ensures { result.now ≡ last_text form }
+fn push_last(out: &mut String, form: Form) -> Result<(), AllocError>
+    ensures { OnOk result (string_bytes out.new ≡ string_bytes out.old ++ last_text form) }
 {
     match form {
-        Form::Dot => "}\n",
-        Form::Table | Form::Aut => "",
+        Form::Dot => out.push_str("}\n"),
+        Form::Table | Form::Aut => Ok(()),
     }
 }
 
 // The steps out of state s, in their order.
 fn push_steps<S: System>(
     out: &mut String,
-    heap: Global,
     form: Form,
     source: &S,
     s: usize,
@@ -103,8 +113,7 @@ fn push_steps<S: System>(
     let mut k = 0;
     while let Some((action, target)) = source.step(s, k) {
         let fresh = (k == 0) & !end;
-        let text = step(heap, form, s, fresh, action, target)?;
-        out.push_str(text.as_str())?;
+        push_step(out, form, s, fresh, action, target)?;
         k += 1;
     }
     Ok(())
@@ -113,7 +122,6 @@ fn push_steps<S: System>(
 // All that is told of state s.
 fn push_row<S: System>(
     out: &mut String,
-    heap: Global,
     form: Form,
     source: &S,
     s: usize,
@@ -122,11 +130,9 @@ fn push_row<S: System>(
 {
     let end = source.is_end(s);
     let silent = source.step_count(s) == 0;
-    let start = state(heap, form, s, end, silent)?;
-    out.push_str(start.as_str())?;
-    push_steps(out, heap, form, source, s, end)?;
-    out.push_str(foot(form))?;
-    Ok(())
+    push_state(out, form, s, end, silent)?;
+    push_steps(out, form, source, s, end)?;
+    push_foot(out, form)
 }
 
 // How many transitions out of state s the Aldebaran form has.
@@ -141,11 +147,28 @@ fn row_transitions<S: System>(source: &S, s: usize) -> usize
 fn transition_count<S: System>(source: &S) -> usize
     ensures { result ≡ transitions (S.meaning source.now) }
 {
-    let mut total = 0;
+    (0..source.states())
+        .map(
+            |s: usize| -> usize
+                ensures { result ≡ transitions_of (S.meaning source.entry.now) s }
+            { row_transitions(source, s) },
+        )
+        .sum()
+}
+
+// The whole procedure in a form, behind what is written.
+pub fn push_drawing<S: System>(
+    out: &mut String,
+    form: Form,
+    source: &S,
+) -> Result<(), AllocError>
+    ensures { OnOk result (string_bytes out.new ≡ string_bytes out.old ++ drawing form (S.meaning source.now)) }
+{
+    push_head(out, form, transition_count(source), source.states())?;
     for s in 0..source.states() {
-        total += row_transitions(source, s);
+        push_row(out, form, source, s)?;
     }
-    total
+    push_last(out, form)
 }
 
 // The whole procedure in a form.
@@ -156,10 +179,7 @@ pub fn draw<S: System>(
 ) -> Result<String, AllocError>
     ensures { IfOk result (λ t. string_bytes t ≡ drawing form (S.meaning source.now)) }
 {
-    let mut out = head(heap, form, transition_count(source), source.states())?;
-    for s in 0..source.states() {
-        push_row(&mut out, heap, form, source, s)?;
-    }
-    out.push_str(last(form))?;
+    let mut out = String::new(heap);
+    push_drawing(&mut out, form, source)?;
     Ok(out)
 }

@@ -3,8 +3,7 @@ ghost use Rattle.std.specs.Prelude.{IfOk, string_bytes};
 ghost use Rattle.drawings.specs.Answers.{Drawn};
 
 use crate::form::Form;
-use crate::procedure::draw;
-use refusals::Fault;
+use crate::reading::draw_reading;
 use std::alloc::{AllocError, Global};
 use terms::Term;
 
@@ -12,11 +11,5 @@ use terms::Term;
 pub fn draw_term(heap: Global, form: Form, text: &[u8]) -> Result<String, AllocError>
     ensures { IfOk result (λ t. Drawn form text.now (string_bytes t)) }
 {
-    match Term::read(text) {
-        Ok(term) => draw(heap, form, &term),
-        Err(fault) => {
-            let refusal = fault.refusal();
-            format!(in heap; "{refusal}\n")
-        }
-    }
+    draw_reading(heap, form, Term::read(text))
 }

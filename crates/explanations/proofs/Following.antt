@@ -1,21 +1,19 @@
 -- A way is followed step by step.
-use Rattle.std.proofs.Common.{◌≡◌, ℕ, ◌+◌, ◌*◌, ◌<◌, ◌≤◌, List, [], ◌∷◌, ◌++◌, length, get_or, take, drop, Some, None, Option, sym, refl, ap, ◌∙◌, subst, inl, inr, append_assoc, append-nil, add-mul, one-mul, arith}
+use Rattle.std.proofs.Common.{◌≡◌, ℕ, ◌+◌, ◌*◌, ◌<◌, ◌≤◌, List, [], ◌∷◌, ◌++◌, length, get_or, take, drop, Some, None, Option, sym, refl, ap, ◌∙◌, subst, inl, inr, append_assoc, append-nil, arith}
 use Rattle.std.specs.List.{slice_get}
-use Rattle.std.proofs.lemmas.Nat.{mul-le}
-use Rattle.std.proofs.lemmas.List.{get_or-drop, flat_map_more, take_more}
+use Rattle.std.proofs.lemmas.List.{get_or-drop, take_more}
 use Rattle.lts.specs.Meaning.{Meaning, Lawful}
 use Rattle.lts.specs.Laws.Member.{nth_in, in_nth}
 use Rattle.theory.specs.Formulas.{Formula, T, E, N, A, D, Holds}
 use Rattle.formulas.specs.declared.fault.EvaluationFault.{EvaluationFault}
 use Rattle.formulas.specs.declared.line.Line.{Line}
-use Rattle.formulas.specs.declared.line.Line.TheVariants.{True, End, Not, Both, Step}
 use Rattle.formulas.specs.Faults.{first_fault}
 use Rattle.formulas.proofs.Rows.{not_refused}
 use Rattle.formulas.specs.Evaluation.{Marks}
 use Rattle.formulas.specs.Lines.{Wellformed, formula}
-use Rattle.explanations.specs.Ways.{first_of, lead, First, FirstMarked, Leads, Marked, Way, offset_text, way_text, move_text, moves_text}
-use Rattle.listings.specs.Offsets.{action_offset}
-use Rattle.explanations.proofs.Spelling.{is_true, is_end, is_not, is_both, is_step}
+use Rattle.explanations.specs.Ways.{first_of, lead, First, FirstMarked, Marked, Way, move_text, moves_text}
+use Rattle.explanations.specs.declared.formula.FormulaLine.{FormulaLine}
+use Rattle.explanations.specs.Parts.{Leads}
 
 -- the steps so far lead from the start to state s, and what is left to follow is the way of line i there
 pub record Underway (m : Meaning) (lines : List Line) (start : ℕ) (steps : List (ℕ × ℕ)) (s i : ℕ) : Type 0 where
@@ -87,44 +85,6 @@ module _ (m : Meaning) {most : ℕ} (lawful : Lawful most m) (lines : List Line)
 pub way_whole : (m : Meaning) (lines : List Line) (start : ℕ) (steps : List (ℕ × ℕ)) (s i : ℕ) → Underway m lines start steps s i → lead (formula lines i) ≡ None → Way m 0 (formula lines start) steps
 way_whole m lines start steps s i u e = subst (λ xs. Way m 0 (formula lines start) xs) (append-nil steps) (u.goes_on [] e)
 
--- what a line asks for first, by its letter
-module _ (lines : List Line) (well : Wellformed lines) (i : ℕ) (inside : i < length lines) where
-  pub leads_true : get_or lines i True ≡ True → Leads lines i None
-  leads_true e = ap lead (is_true lines well i inside e)
-
-  pub leads_end : get_or lines i True ≡ End → Leads lines i None
-  leads_end e = ap lead (is_end lines well i inside e)
-
-  pub leads_not : (j : ℕ) → get_or lines i True ≡ Not j → Leads lines i None
-  leads_not j e = ap lead (is_not lines well i inside j e).1
-
-  pub leads_step : (a j : ℕ) → get_or lines i True ≡ Step a j → Leads lines i (Some (a, j))
-  leads_step a j e = let s = is_step lines well i inside a j e in (s.1, ap lead s.2)
-
-  pub leads_first : (j k : ℕ) (x : ℕ × ℕ) → get_or lines i True ≡ Both j k → Leads lines j (Some x) → Leads lines i (Some x)
-  leads_first j k x e l =
-      let b = is_both lines well i inside j k e in
-      let l₀ = l.0 in
-      let b₀ = b.0 in
-      (omega arith, ap lead b.2 ∙ ap (λ o. first_of o (lead (formula lines k))) l.1)
-
-  pub leads_second : (j k : ℕ) (o : Option (ℕ × ℕ)) → get_or lines i True ≡ Both j k → Leads lines j None → Leads lines k o → Leads lines i o
-  leads_second j k None e l r = let b = is_both lines well i inside j k e in ap lead b.2 ∙ (ap (λ o. first_of o (lead (formula lines k))) l ∙ r)
-  leads_second j k (Some x) e l r =
-      let b = is_both lines well i inside j k e in
-      let r₀ = r.0 in
-      let b₁ = b.1 in
-      (omega arith, ap lead b.2 ∙ (ap (λ o. first_of o (lead (formula lines k))) l ∙ r.1))
-
--- the row of line j lies inside the marks
-pub row_inside : (m : Meaning) (lines : List Line) (work : List ℕ) (n j : ℕ) → Marked m lines work → n ≡ m.count → j < length lines → j * n + n ≤ length work
-row_inside m lines work n j marked e h =
-    let a = mul-le (j + 1) m.count (length lines) m.count (omega arith) (omega arith) in
-    let b = add-mul j 1 m.count in
-    let c = one-mul m.count in
-    let d = marked.room in
-    rw e (omega arith)
-
 -- the evaluation is not refused
 pub not_refused_at_start : (m : Meaning) {most : ℕ} (lawful : Lawful most m) (lines : List Line) (i room : ℕ) (fault : EvaluationFault) → Wellformed lines → length lines ≤ 1024 → i < length lines → length lines * m.count ≤ room → first_fault lines i 0 m.count room ≡ Some fault → ⊥
 not_refused_at_start m lawful lines i room fault w f l r e =
@@ -132,12 +92,6 @@ not_refused_at_start m lawful lines i room fault w f l r e =
     let n = not_refused lines i 0 m.count room (record { some = omega arith; few = f; wellformed = w; line = l; state = omega arith; fits = r }) in
     let z : ◌≡◌ {A = ℕ} 0 1 = cc in
     omega arith
-
--- one offset more is told
-pub offset_more : (text : List ℕ) (steps : List (ℕ × ℕ)) (k : ℕ) (first out out' : List ℕ) → k < length steps → out ≡ first ++ way_text text (take k steps) → out' ≡ out ++ offset_text (get_or steps k (0, 0)).0 (action_offset text (get_or steps k (0, 0)).1) → out' ≡ first ++ way_text text (take (k + 1) steps)
-offset_more text steps k first out out' h e f =
-    let tell : ℕ × ℕ → List ℕ = λ step. offset_text step.0 (action_offset text step.1) in
-    f ∙ (ap (λ z. z ++ tell (get_or steps k (0, 0))) e ∙ (flat_map_more tell first (take k steps) (get_or steps k (0, 0)) ∙ ap (λ z. first ++ way_text text z) (sym (take_more steps k (0, 0) h))))
 
 -- where the steps lead from state s
 abbrev pub reached : ℕ → List (ℕ × ℕ) → ℕ
@@ -153,11 +107,17 @@ moves_text_more s [] step = append-nil (move_text s step)
 moves_text_more s (x ∷ steps) step = ap (λ z. move_text s x ++ z) (moves_text_more x.1 steps step) ∙ sym (append_assoc (move_text s x) (moves_text x.1 steps) (move_text (reached x.1 steps) step))
 
 -- one step more is told, out of the state that those before lead to
-pub move_more : (steps : List (ℕ × ℕ)) (k s : ℕ) (first out out' line : List ℕ) → k < length steps → s ≡ reached 0 (take k steps) → out ≡ first ++ moves_text 0 (take k steps) → line ≡ move_text s (get_or steps k (0, 0)) → out' ≡ out ++ line → ((get_or steps k (0, 0)).1 ≡ reached 0 (take (k + 1) steps)) × (out' ≡ first ++ moves_text 0 (take (k + 1) steps))
-move_more steps k s first out out' line h at e l f =
+pub move_more : (steps : List (ℕ × ℕ)) (k s : ℕ) (first out out' : List ℕ) → k < length steps → s ≡ reached 0 (take k steps) → out ≡ first ++ moves_text 0 (take k steps) → out' ≡ out ++ move_text s (get_or steps k (0, 0)) → ((get_or steps k (0, 0)).1 ≡ reached 0 (take (k + 1) steps)) × (out' ≡ first ++ moves_text 0 (take (k + 1) steps))
+move_more steps k s first out out' h at e f =
     let step = get_or steps k (0, 0) in
     let more = take_more steps k (0, 0) h in
-    let told : out' ≡ first ++ (moves_text 0 (take k steps) ++ move_text (reached 0 (take k steps)) step) = f ∙ ((λ i. e i ++ (l ∙ ap (λ n. move_text n step) at) i) ∙ append_assoc first (moves_text 0 (take k steps)) (move_text (reached 0 (take k steps)) step)) in (
+    let told : out' ≡ first ++ (moves_text 0 (take k steps) ++ move_text (reached 0 (take k steps)) step) = f ∙ ((λ i. e i ++ ap (λ n. move_text n step) at i) ∙ append_assoc first (moves_text 0 (take k steps)) (move_text (reached 0 (take k steps)) step)) in (
       sym (ap (reached 0) more ∙ reached_more 0 (take k steps) step),
       told ∙ ap (λ z. first ++ z) (sym (ap (moves_text 0) more ∙ moves_text_more 0 (take k steps) step)),
     )
+
+-- what a formula asks for first, said of all the lines
+pub leads_over : (lines : List Line) (f next : FormulaLine) (a : ℕ) → f.lines.now ≡ lines → Leads f (Some (a, next)) → (next.lines.now ≡ lines) × (next.line < f.line) × (lead (formula lines f.line) ≡ Some (a, formula lines next.line))
+leads_over lines f next a e l =
+    let same = l.0.1 ∙ e in
+    (same, l.0.0, ap (λ xs. lead (formula xs f.line)) (sym e) ∙ (l.1 ∙ ap (λ xs. Some (a, formula xs next.line)) same))

@@ -1,3 +1,4 @@
+pub mod Answering
 pub mod Following
 pub mod Letters
 pub mod Placing

@@ -34,7 +34,7 @@ followed_stands text t sp Same lines steps e step h = absurd (subst (λ xs. In s
 followed_stands text t sp (Different n i d) lines steps w step h = way_stands text t sp steps 0 (formula (take n lines) i) w step h
 
 -- what a term's word denotes
-denotes_term : (g : Given) (m : Meaning) {text : _} → g.word ≡ Term text → Denotes (input_of g) m → Denotes (inputs.Term text) m
+pub denotes_term : (g : Given) (m : Meaning) {text : _} → g.word ≡ Term text → Denotes (input_of g) m → Denotes (inputs.Term text) m
 denotes_term g m e h = let P : Word → Type 0 = λ w. Denotes (elim w [ Term text ↦ inputs.Term text | File path ↦ inputs.Table g.file ]) m in subst P e h
 
 pub term_ascii : (g : Given) (m : Meaning) {text : _} → g.word ≡ Term text → Denotes (input_of g) m → IsAscii text.now

@@ -1,7 +1,5 @@
 -- What a comparison answers can be told.
-use Rattle.std.proofs.Common.{ℕ, ◌+◌, ◌-◌, ◌*◌, ◌≤◌, List, length, get_or, take, arith}
-use Rattle.std.proofs.lemmas.Nat.{mul-le}
-use Rattle.std.proofs.lemmas.List.{length-take-le}
+use Rattle.std.proofs.Common.{ℕ, ◌+◌, ◌-◌, ◌*◌, ◌≤◌, List, length, get_or, arith}
 use Rattle.std.proofs.lemmas.Bool.{ltb-true}
 use Rattle.lts.specs.Meaning.{Meaning}
 use Rattle.lts.specs.Joined.{joined}
@@ -14,7 +12,7 @@ use Rattle.comparison.specs.declared.report.Report.{Report}
 use Rattle.comparison.specs.declared.report.Verdict.{Verdict}
 use Rattle.comparison.specs.declared.report.Verdict.TheVariants.{Same, Different}
 use Rattle.comparison.specs.Compared.{Judged, Reported}
-use Rattle.explanations.specs.Explanations.{Usable, Tellable}
+use Rattle.explanations.specs.Explanations.{Tellable}
 
 tellable : (p q : Meaning) (K n : ℕ) (lines lines' : List Line) (v : Verdict) → n ≤ 128 → p.count ≤ n → K ≤ n + n → 4 * (n + n) - 3 ≤ length lines' → length lines' ≤ 1021 → Judged p q K lines v lines' → Tellable p v lines'
 tellable p q K n lines lines' Same low small few room most h = tt
@@ -29,10 +27,3 @@ reported_tellable p q n lines classes r lines' classes' low small small' room mo
     let few = count_few (all_of m) m.count (λ s e. ltb-true s m.count e) (Related m m) r.classes (λ s. get_or classes' s 0) h.numbered in
     let all = number_below m.count m.count (omega arith) in
     tellable p q r.classes n lines lines' r.verdict low small (omega arith) room most h.verdict
-
--- the marks of the lines have room
-pub marks_room : (m : Meaning) (n i : ℕ) (lines : List Line) → Usable m n i lines → length (take n lines) * m.count ≤ 130688
-marks_room m n i lines u =
-    let e = length-take-le n lines u.room in
-    let a = mul-le (length (take n lines)) m.count 1021 128 (omega (arith, u.few)) u.small in
-    omega arith

@@ -6,7 +6,7 @@ use Rattle.theory.specs.Formulas.{Formula, T, E, N, A, D, Holds}
 use Rattle.drawings.specs.Texts.{action_text}
 use Rattle.formulas.specs.declared.line.Line.{Line}
 use Rattle.formulas.specs.Evaluation.{RowsMarked}
-use Rattle.formulas.specs.Lines.{Wellformed, formula}
+use Rattle.formulas.specs.Lines.{Wellformed}
 use Rattle.listings.specs.Offsets.{action_offset}
 
 -- the first of two answers
@@ -33,11 +33,6 @@ pub record First (m : Meaning) (s a : ℕ) (f : Formula) (t : ℕ) : Type 0 wher
 abbrev pub FirstMarked : List (ℕ × ℕ) → ℕ → List ℕ → Option ℕ → Type 0
 FirstMarked steps a row None = (k u : ℕ) → slice_get steps k ≡ Some (a, u) → slice_index row u ≢ 1
 FirstMarked steps a row (Some t) = (place : ℕ) × (slice_get steps place ≡ Some (a, t)) × (slice_index row t ≡ 1) × ((k u : ℕ) → k < place → slice_get steps k ≡ Some (a, u) → slice_index row u ≢ 1)
-
--- what line i asks for first: an action, and the line that has to hold behind it
-abbrev pub Leads : List Line → ℕ → Option (ℕ × ℕ) → Type 0
-Leads lines i None = lead (formula lines i) ≡ None
-Leads lines i (Some x) = (x.1 < i) × (lead (formula lines i) ≡ Some (x.0, formula lines x.1))
 
 -- the marks of well-formed lines at every state
 pub record Marked (m : Meaning) (lines : List Line) (work : List ℕ) : Type 0 where

@@ -6,8 +6,11 @@ mod difference;
 mod explanation;
 mod formula;
 mod given;
+mod readable;
 mod side;
 mod summary;
+mod told;
+mod version;
 mod way;
 
 pub use explanation::explain;

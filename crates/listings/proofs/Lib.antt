@@ -1,4 +1,3 @@
-pub mod Counting
 pub mod Leaves
 pub mod Listing
 pub mod Pieces

@@ -4,7 +4,7 @@ use Rattle.std.specs.List.{range_with_len}
 use Rattle.std.proofs.lemmas.List.Elements.{filter-append}
 use Rattle.std.proofs.lemmas.Bool.{eq-eqb, ne_eqb}
 use Rattle.listings.specs.Texts.{state_text, members, listed}
-use Rattle.listings.proofs.Counting.{counting_more}
+use Rattle.drawings.proofs.Counting.{counting_more}
 
 -- nothing is in the list
 abbrev pub none_of : List ℕ → Bool
@@ -43,13 +43,13 @@ module _ (n : ℕ) (classes : List ℕ) (c s : ℕ) (first out : List ℕ) (fres
       let e : members classes c (s + 1) ≡ members classes c s = members_more ∙ rw (ne_eqb (get_or classes s 0) c ne) (append-nil (members classes c s)) in
       (o ∙ h.0 ∙ ap (λ xs. first ++ listed true (map (state_text n) xs)) (sym e), f ∙ h.1 ∙ ap none_of (sym e))
 
-  pub also_listed : (mark name out₁ out₂ : List ℕ) (fresh' : Bool) → get_or classes s 0 ≡ c → mark ≡ cond fresh (codes ": ") (codes ", ") → out₁ ≡ out ++ mark → name ≡ state_text n s → out₂ ≡ out₁ ++ name → fresh' ≡ false → Telling n classes c (s + 1) first out₂ fresh'
-  also_listed mark name out₁ out₂ fresh' here m o₁ a o₂ f =
+  pub also_listed : (mark out₁ out₂ : List ℕ) (fresh' : Bool) → get_or classes s 0 ≡ c → mark ≡ cond fresh (codes ": ") (codes ", ") → out₁ ≡ out ++ mark → out₂ ≡ out₁ ++ state_text n s → fresh' ≡ false → Telling n classes c (s + 1) first out₂ fresh'
+  also_listed mark out₁ out₂ fresh' here m o₁ o₂ f =
       let e : members classes c (s + 1) ≡ members classes c s ++ s ∷ [] = members_more ∙ rw (eq-eqb (get_or classes s 0) c here) in
       let before = listed true (map (state_text n) (members classes c s)) in
       let sep : List ℕ = cond (none_of (members classes c s)) (codes ": ") (codes ", ") in
       let m' : mark ≡ sep = m ∙ ap (λ b. cond b (codes ": ") (codes ", ")) h.1 in
-      let whole : out₂ ≡ ((first ++ before) ++ sep) ++ state_text n s = o₂ ∙ (λ i. (o₁ ∙ (λ j. h.0 j ++ m' j)) i ++ a i) in
+      let whole : out₂ ≡ ((first ++ before) ++ sep) ++ state_text n s = o₂ ∙ ap (λ xs. xs ++ state_text n s) (o₁ ∙ (λ j. h.0 j ++ m' j)) in
       let parts : ((first ++ before) ++ sep) ++ state_text n s ≡ first ++ (before ++ (sep ++ state_text n s)) = simp append_assoc in
       let pushed = listed_push (state_text n) s (members classes c s) in (
         whole ∙ (parts ∙ (ap (λ zs. first ++ zs) (sym pushed) ∙ ap (λ xs. first ++ listed true (map (state_text n) xs)) (sym e))),

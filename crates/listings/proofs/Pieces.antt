@@ -9,6 +9,3 @@ three_pieces out out₁ out₂ out₃ a b d e f g = two_pieces out out₁ out₃
 
 pub four_pieces : (out out₁ out₂ out₃ out₄ a b d x : List ℕ) → out₁ ≡ out ++ a → out₂ ≡ out₁ ++ b → out₃ ≡ out₂ ++ d → out₄ ≡ out₃ ++ x → out₄ ≡ out ++ (a ++ (b ++ (d ++ x)))
 four_pieces out out₁ out₂ out₃ out₄ a b d x e f g h = two_pieces out out₁ out₄ a (b ++ (d ++ x)) e (three_pieces out₁ out₂ out₃ out₄ b d x f g h)
-
-pub five_pieces : (out out₁ out₂ out₃ out₄ out₅ a b d x y : List ℕ) → out₁ ≡ out ++ a → out₂ ≡ out₁ ++ b → out₃ ≡ out₂ ++ d → out₄ ≡ out₃ ++ x → out₅ ≡ out₄ ++ y → out₅ ≡ out ++ (a ++ (b ++ (d ++ (x ++ y))))
-five_pieces out out₁ out₂ out₃ out₄ out₅ a b d x y e f g h i = two_pieces out out₁ out₅ a (b ++ (d ++ (x ++ y))) e (four_pieces out₁ out₂ out₃ out₄ out₅ b d x y f g h i)

@@ -1,39 +1,39 @@
 -- How the action at a place is looked for.
-use Rattle.std.proofs.Common.{◌≡◌, ℕ, zero, suc, ◌+◌, ◌-◌, ◌<◌, ◌≤◌, true, false, List, [], ◌∷◌, length, get_or, drop, Some, None, sym, refl, ap, ◌∙◌, arith}
-use Rattle.std.proofs.lemmas.List.{drop_more, drop_all}
+use Rattle.std.proofs.Common.{◌≡◌, ℕ, zero, suc, ◌+◌, ◌-◌, ◌≤◌, Bool, true, false, cond, List, [], ◌∷◌, Some, None, Option, MatchOption, is_some, sym, refl, ap, arith}
+use Rattle.std.specs.List.{slice_get, enumerate_from, filter_map, cons_option}
+use Rattle.terms.specs.Grammar.{Letter}
 use Rattle.terms.specs.Scan.{is_action}
-use Rattle.listings.specs.Offsets.{action_offsets, from_one, action_offset}
+use Rattle.terms.specs.Assembly.{action_of}
+use Rattle.terms.proofs.Letters.{action_letter, letter_action}
+use Rattle.listings.specs.Offsets.{action_offsets, from_one}
 
--- the action is `left` actions on, from the offset `at`
-abbrev pub Ahead : List ℕ → ℕ → ℕ → ℕ → Type 0
-Ahead text place left at = from_one left (action_offsets at (drop at text)) ≡ action_offset text place
+-- whether an action has the character
+pub has_action : (c : ℕ) (o : Option ℕ) → MatchOption o ((a : ℕ) → Letter c a → ⊥) (λ a. Letter c a) → is_some o ≡ is_action c
+has_action c None h = go (is_action c) refl
+  where
+    go : (b : Bool) → is_action c ≡ b → false ≡ b
+    go true e = absurd (h (action_of c) (action_letter c e))
+    go false e = refl
+has_action c (Some a) h = sym (letter_action h).0
 
-from_one_none : (left : ℕ) → from_one left [] ≡ None
-from_one_none zero = refl
-from_one_none (suc left) = refl
+-- the place, if an action stands there
+abbrev pub action_place : ℕ × ℕ → Option ℕ
+action_place p = cond (is_action p.1) (Some p.0) None
 
-from_one_less : (x : ℕ) (xs : List ℕ) (left : ℕ) → (left ≡ 1 → ⊥) → from_one left (x ∷ xs) ≡ from_one (left - 1) xs
-from_one_less x xs zero ne = refl
-from_one_less x xs (suc zero) ne = absurd (ne refl)
-from_one_less x xs (suc (suc left)) ne = let e : suc (suc left) - 1 ≡ suc left = omega arith in rw e refl
+-- the offsets are the places where an action stands
+pub offsets_filtered : (at : ℕ) (text : List ℕ) → filter_map action_place (enumerate_from at text) ≡ action_offsets at text
+offsets_filtered at [] = refl
+offsets_filtered at (c ∷ text) = go (is_action c) (offsets_filtered (at + 1) text)
+  where
+    go : (b : Bool) → filter_map action_place (enumerate_from (at + 1) text) ≡ action_offsets (at + 1) text → cons_option (cond b (Some at) None) (filter_map action_place (enumerate_from (at + 1) text)) ≡ cond b (at ∷ action_offsets (at + 1) text) (action_offsets (at + 1) text)
+    go true e = ap (λ xs. at ∷ xs) e
+    go false e = e
 
-pub none_left : (text : List ℕ) (place left at : ℕ) → length text ≤ at → Ahead text place left at → None ≡ action_offset text place
-none_left text place left at l h = sym (ap (λ cs. from_one left (action_offsets at cs)) (drop_all at text l) ∙ from_one_none left) ∙ h
+-- the first, second, .. of a list, by its index
+pub from_one_none : (place : ℕ) (xs : List ℕ) → (1 ≤ place → ⊥) → None ≡ from_one place xs
+from_one_none zero xs h = refl
+from_one_none (suc i) xs h = absurd (h (omega arith))
 
-module _ (text : List ℕ) (place left at : ℕ) (inside : at < length text) (h : Ahead text place left at) where
-  pub no_action : (ahead : ℕ) → ahead ≡ left → is_action (get_or text at 0) ≡ false → Ahead text place ahead (at + 1)
-  no_action ahead q e =
-      let d = ap (λ cs. from_one left (action_offsets at cs)) (drop_more text at 0 inside) in
-      rw q (sym (rw e at d) ∙ h)
-
-  pub found : is_action (get_or text at 0) ≡ true → left ≡ 1 → Some at ≡ action_offset text place
-  found e one =
-      let d = ap (λ cs. from_one left (action_offsets at cs)) (drop_more text at 0 inside) in
-      let d' = rw (e, one) at d in
-      sym d' ∙ (rw one at h)
-
-  pub passed : (ahead : ℕ) → ahead ≡ left - 1 → is_action (get_or text at 0) ≡ true → (left ≡ 1 → ⊥) → Ahead text place ahead (at + 1)
-  passed ahead q e ne =
-      let d = ap (λ cs. from_one left (action_offsets at cs)) (drop_more text at 0 inside) in
-      let d' = rw e at d in
-      rw q (sym (d' ∙ from_one_less at (action_offsets (at + 1) (drop (at + 1) text)) left ne) ∙ h)
+pub from_one_some : (place i : ℕ) (xs : List ℕ) → 1 ≤ place → i ≡ place - 1 → slice_get xs i ≡ from_one place xs
+from_one_some zero i xs h e = let b : ⊥ = omega arith in absurd b
+from_one_some (suc k) i xs h e = let n : i ≡ k = omega arith in ap (slice_get xs) n

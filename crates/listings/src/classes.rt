@@ -1,18 +1,18 @@
 // The classes of two procedures side by side, each with its states.
-ghost use Rattle.std.specs.Prelude.{◌≡◌, true, ◌++◌, map, length, IfOk, if◌then◌else◌, string_bytes, codes, OnOk};
+ghost use Rattle.std.specs.Prelude.{◌≡◌, true, ◌++◌, map, length, if◌then◌else◌, string_bytes, codes, OnOk};
 ghost use Rattle.listings.specs.Texts.{state_text, members, listed, class_text, classes_text};
 
-use std::alloc::{AllocError, Global};
+use std::alloc::AllocError;
 
 // State s of both, of which the left one has n states.
-fn state(heap: Global, n: usize, s: usize) -> Result<String, AllocError>
-    ensures { IfOk result (λ t. string_bytes t ≡ state_text n s) }
+fn push_state(out: &mut String, n: usize, s: usize) -> Result<(), AllocError>
+    ensures { OnOk result (string_bytes out.new ≡ string_bytes out.old ++ state_text n s) }
 {
     if s < n {
-        format!(in heap; "left {s}")
+        write!(out, "left {s}")
     } else {
         let s = s - n;
-        format!(in heap; "right {s}")
+        write!(out, "right {s}")
     }
 }
 
@@ -24,47 +24,31 @@ fn separator(fresh: bool) -> &'static str
 }
 
 // The states of class c; `classes` has the class of each state.
-fn push_members(
-    out: &mut String,
-    heap: Global,
-    n: usize,
-    classes: &[u16],
-    c: u16,
-) -> Result<(), AllocError>
+fn push_members(out: &mut String, n: usize, classes: &[u16], c: u16) -> Result<(), AllocError>
     ensures { OnOk result (string_bytes out.new ≡ string_bytes out.old ++ listed true (map (state_text n) (members classes.now c (length classes.now)))) }
 {
     let mut fresh = true;
     for (s, class) in classes.iter().enumerate() {
         if *class == c {
-            let name = state(heap, n, s)?;
             out.push_str(separator(fresh))?;
-            out.push_str(name.as_str())?;
+            push_state(out, n, s)?;
             fresh = false;
         }
     }
     Ok(())
 }
 
-fn push_class(
-    out: &mut String,
-    heap: Global,
-    n: usize,
-    classes: &[u16],
-    c: u16,
-) -> Result<(), AllocError>
+fn push_class(out: &mut String, n: usize, classes: &[u16], c: u16) -> Result<(), AllocError>
     ensures { OnOk result (string_bytes out.new ≡ string_bytes out.old ++ class_text n classes.now c) }
 {
-    let head = format!(in heap; "class {c}")?;
-    out.push_str(head.as_str())?;
-    push_members(out, heap, n, classes, c)?;
-    out.push_str("\n")?;
-    Ok(())
+    write!(out, "class {c}")?;
+    push_members(out, n, classes, c)?;
+    out.push_str("\n")
 }
 
 // All classes, of which there are `count`.
 pub fn push_classes(
     out: &mut String,
-    heap: Global,
     n: usize,
     classes: &[u16],
     count: u16,
@@ -72,7 +56,7 @@ pub fn push_classes(
     ensures { OnOk result (string_bytes out.new ≡ string_bytes out.old ++ classes_text n classes.now count) }
 {
     for c in 0..count {
-        push_class(out, heap, n, classes, c)?;
+        push_class(out, n, classes, c)?;
     }
     Ok(())
 }

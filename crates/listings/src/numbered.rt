@@ -4,7 +4,7 @@ ghost use Rattle.listings.specs.Texts.{line_text, lines_text};
 
 use drawings::ActionName;
 use formulas::Line;
-use std::alloc::{AllocError, Global};
+use std::alloc::AllocError;
 use std::fmt;
 
 // A line as it is written: its letter, and what it names.
@@ -29,13 +29,12 @@ impl fmt::Display for LineName {
     }
 }
 
-pub fn push_lines(out: &mut String, heap: Global, lines: &[Line]) -> Result<(), AllocError>
+pub fn push_lines(out: &mut String, lines: &[Line]) -> Result<(), AllocError>
     ensures { OnOk result (string_bytes out.new ≡ string_bytes out.old ++ lines_text lines.now) }
 {
     for (k, line) in lines.iter().enumerate() {
         let line = LineName(*line);
-        let text = format!(in heap; "{k}: {line}\n")?;
-        out.push_str(text.as_str())?;
+        write!(out, "{k}: {line}\n")?;
     }
     Ok(())
 }

@@ -72,7 +72,7 @@ impl Shelf {
 
     // One call of a list.
     fn perform<const N: usize, S: Source<N>>(&mut self, call: &ShelfCall<S>) -> Answer
-        ensures { Performed (account_of self.old) (call_of S.Source.meaning call.now) result (account_of self.new) }
+        ensures { Performed (account_of self.old) (call_of S.System.meaning call.now) result (account_of self.new) }
     {
         match call {
             ShelfCall::File { slot, source } => {

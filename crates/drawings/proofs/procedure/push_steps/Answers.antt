@@ -1,4 +1,4 @@
-use Rattle.std.proofs.Common.{◌<◌, string_bytes, ◌∙◌, arith, rules}
+use Rattle.std.proofs.Common.{◌<◌, string_bytes, arith, rules}
 use Rattle.drawings.proofs.Rows.{nth_drop, stepped_more, stepped_all}
 use Rattle.drawings.proofs.procedure.push_steps.Goals as goal
 
@@ -19,7 +19,7 @@ loop-action-smaller g c =
 pub loop-action-preserved : goal.loop-action-preserved
 loop-action-preserved g c =
     stepped_more c.args.form c.args.s c.args.end ((g.S.System.meaning c.args.source.now).steps c.args.s) c.loop-action.k (string_bytes c.args.out.now) (string_bytes c.loop-action.out)
-    (c.in-Some.action, c.in-Some.target) c.as_str.result.now (string_bytes c.push_str.new.self) c.in-Some.ensures (c.as_str.ensures.value ∙ c.in_ok-text.ensures) c.in_ok-push_str.ensures.bytes c.loop-action.invariant
+    (c.in-Some.action, c.in-Some.target) (string_bytes c.push_step.new.out) c.in-Some.ensures c.in_ok-push_step.ensures c.loop-action.invariant
 
 pub returns : goal.returns
 returns g c =

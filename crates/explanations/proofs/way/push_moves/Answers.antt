@@ -1,12 +1,7 @@
-use Rattle.std.proofs.Common.{◌++◌, string_bytes, ap, ◌∙◌}
-use Rattle.std.proofs.lemmas.List.{take_all}
-use Rattle.explanations.specs.Ways.{moves_text}
+use Rattle.std.proofs.Common.{string_bytes}
 use Rattle.explanations.proofs.Following.{move_more}
 use Rattle.explanations.proofs.way.push_moves.Goals as goal
 
 pub loop-action-preserved : goal.loop-action-preserved
 loop-action-preserved c =
-    move_more c.args.steps.now c.loop-action.action-index c.loop-action.s (string_bytes c.args.out.now) (string_bytes c.loop-action.out) (string_bytes c.push_str.new.self) c.as_str.result.now c.loop-action-test.true c.loop-action.invariant.0 c.loop-action.invariant.1 (c.as_str.ensures.value ∙ c.in_ok-line.ensures) c.in_ok-push_str.ensures.bytes
-
-pub returns : goal.returns
-returns c = c.loop-action.invariant.1 ∙ ap (λ xs. string_bytes c.args.out.now ++ moves_text 0 xs) (take_all c.loop-action.action-index c.args.steps.now c.loop-action-test.false)
+    move_more c.args.steps.now c.loop-action.action-index c.loop-action.s (string_bytes c.args.out.now) (string_bytes c.loop-action.out) (string_bytes c.push_move.new.out) c.loop-action-test.true c.loop-action.invariant.0 c.loop-action.invariant.1 c.in_ok-push_move.ensures

@@ -1,4 +1,0 @@
-use Rattle.explanations.proofs.formula.+push_formula.Given as goal
-
-abbrev pub decreases-push_formula : goal.decreases-push_formula
-decreases-push_formula l = l.i
