@@ -10,36 +10,20 @@ use Rattle.lts.specs.Meaning.{Meaning, Lawful}
 use Rattle.drawings.specs.Texts.{head_text, step_text, steps_text, transitions_of, transitions, row_text, state_text, foot_text, last_text, drawing}
 use Rattle.drawings.specs.declared.form.Form.{Form}
 
--- after k steps: what is left to write, behind what was written, makes the whole
-abbrev pub Stepped : Form → ℕ → Bool → List (ℕ × ℕ) → ℕ → List ℕ → List ℕ → Type 0
-Stepped form s end steps k first out = out ++ steps_text form s (eqb k 0 && not end) (drop k steps) ≡ first ++ steps_text form s (not end) steps
+-- behind k steps: the steps that are left, behind what was written, make the whole
+abbrev pub Stepped : Form → ℕ → Bool → List (ℕ × ℕ) → ℕ → List (ℕ × ℕ) → List ℕ → List ℕ → Type 0
+Stepped form s end steps k left first out = out ++ steps_text form s (eqb k 0 && not end) left ≡ first ++ steps_text form s (not end) steps
 
-pub nth_drop : {X : Type 0} (xs : List X) (k : ℕ) (x : X) → Some x ≡ slice_get xs k → (k < length xs) × (drop k xs ≡ x ∷ drop (k + 1) xs)
-nth_drop [] k x e = let z : ◌≡◌ {A = ℕ} 0 1 = cc in let b : ⊥ = omega arith in absurd b
-nth_drop (y ∷ xs) zero x e = let f : y ≡ x = cc in (omega arith, ap (λ z. z ∷ xs) f)
-nth_drop (y ∷ xs) (suc k) x e =
-    let h = nth_drop xs k x e in
-    let n : suc k + 1 ≡ suc (k + 1) = omega arith in
-    let l = h.0 in
-    (omega arith, h.1 ∙ ap (λ m. x ∷ drop m (y ∷ xs)) (sym n))
-
-pub nth_none : {X : Type 0} (xs : List X) (k : ℕ) → None ≡ slice_get xs k → drop k xs ≡ []
-nth_none [] zero e = refl
-nth_none [] (suc k) e = refl
-nth_none (y ∷ xs) zero e = let z : ◌≡◌ {A = ℕ} 0 1 = cc in let b : ⊥ = omega arith in absurd b
-nth_none (y ∷ xs) (suc k) e = nth_none xs k e
-
-module _ (form : Form) (s : ℕ) (end : Bool) (steps : List (ℕ × ℕ)) (k : ℕ) (first out : List ℕ) where
-  pub stepped_more : (x : ℕ × ℕ) (out' : List ℕ) → Some x ≡ slice_get steps k → out' ≡ out ++ step_text form s (eqb k 0 && not end) x → Stepped form s end steps k first out → Stepped form s end steps (k + 1) first out'
-  stepped_more x out' e o h =
-      let d = (nth_drop steps k x e).1 in
-      let h' : out ++ (step_text form s (eqb k 0 && not end) x ++ steps_text form s false (drop (k + 1) steps)) ≡ first ++ steps_text form s (not end) steps = subst (λ zs. out ++ steps_text form s (eqb k 0 && not end) zs ≡ first ++ steps_text form s (not end) steps) d h in
+module _ (form : Form) (s : ℕ) (end : Bool) (steps : List (ℕ × ℕ)) (k : ℕ) (left : List (ℕ × ℕ)) (first out : List ℕ) (h : Stepped form s end steps k left first out) where
+  pub stepped_more : (x : ℕ × ℕ) (rest : List (ℕ × ℕ)) (out' : List ℕ) → left ≡ x ∷ rest → out' ≡ out ++ step_text form s (eqb k 0 && not end) x → Stepped form s end steps (k + 1) rest first out'
+  stepped_more x rest out' d o =
+      let h' : out ++ (step_text form s (eqb k 0 && not end) x ++ steps_text form s false rest) ≡ first ++ steps_text form s (not end) steps = subst (λ zs. out ++ steps_text form s (eqb k 0 && not end) zs ≡ first ++ steps_text form s (not end) steps) d h in
       let n : eqb (k + 1) 0 ≡ false = ne_eqb (k + 1) 0 (λ z. (let b : ⊥ = omega arith in b)) in
-      rw (n, o) (append_assoc out (step_text form s (eqb k 0 && not end) x) (steps_text form s false (drop (k + 1) steps)) ∙ h')
+      rw (n, o) (append_assoc out (step_text form s (eqb k 0 && not end) x) (steps_text form s false rest) ∙ h')
 
-  pub stepped_all : None ≡ slice_get steps k → Stepped form s end steps k first out → out ≡ first ++ steps_text form s (not end) steps
-  stepped_all e h =
-      let h' : out ++ [] ≡ first ++ steps_text form s (not end) steps = subst (λ zs. out ++ steps_text form s (eqb k 0 && not end) zs ≡ first ++ steps_text form s (not end) steps) (nth_none steps k e) h in
+  pub stepped_all : left ≡ [] → out ≡ first ++ steps_text form s (not end) steps
+  stepped_all e =
+      let h' : out ++ [] ≡ first ++ steps_text form s (not end) steps = subst (λ zs. out ++ steps_text form s (eqb k 0 && not end) zs ≡ first ++ steps_text form s (not end) steps) e h in
       sym (append-nil out) ∙ h'
 
 module _ (m : Meaning) (s n : ℕ) (short : length (m.steps s) ≤ 4096) (counted : n ≡ length (m.steps s)) where
@@ -50,8 +34,8 @@ module _ (m : Meaning) (s n : ℕ) (short : length (m.steps s) ≤ 4096) (counte
   plain_transitions e = (rw e (omega arith), omega arith)
 
 -- the transitions of a procedure are few
-pub transitions_few : {most : ℕ} (m : Meaning) → Lawful most m → most ≤ 128 → sum_by (transitions_of m) (range_with_len 0 m.count) < 2 ^ 64
-transitions_few m lawful low =
+pub transitions_few : (m : Meaning) → Lawful 256 m → sum_by (transitions_of m) (range_with_len 0 m.count) < 2 ^ 64
+transitions_few m lawful =
     let states = range_with_len 0 m.count in
     let all = sum_by-le (transitions_of m) 4097 states (λ k d h. each (get_or states k d)) in
     let l = length-range_with_len 0 m.count in

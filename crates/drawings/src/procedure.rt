@@ -3,7 +3,7 @@ ghost use Rattle.std.specs.Prelude.{◌≡◌, ◌+◌, ◌≤◌, not, ◌++◌
 ghost use Rattle.drawings.specs.Texts.{action_text, head_text, state_text, step_text, steps_text, foot_text, last_text, row_text, transitions_of, transitions, drawing};
 
 use crate::form::Form;
-use lts::System;
+use lts::{Steps, System};
 use std::alloc::{AllocError, Global};
 use std::fmt;
 
@@ -110,11 +110,9 @@ fn push_steps<S: System>(
 ) -> Result<(), AllocError>
     ensures { OnOk result (string_bytes out.new ≡ string_bytes out.old ++ steps_text form s (not end) ((S.meaning source.now).steps s)) }
 {
-    let mut k = 0;
-    while let Some((action, target)) = source.step(s, k) {
+    for (k, (action, target)) in Steps::of(source, s).enumerate() {
         let fresh = (k == 0) & !end;
         push_step(out, form, s, fresh, action, target)?;
-        k += 1;
     }
     Ok(())
 }

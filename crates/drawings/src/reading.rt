@@ -10,7 +10,7 @@ use refusals::Fault;
 use std::alloc::{AllocError, Global};
 
 // The drawing of the procedure that was read, or the line that tells the refusal.
-pub fn draw_reading<const N: usize, S: Source<N> + Drop, F: Fault + Drop>(
+pub fn draw_reading<S: System + Drop, F: Fault + Drop>(
     heap: Global,
     form: Form,
     reading: Result<S, F>,

@@ -11,7 +11,8 @@ use Rattle.formulas.specs.Faults.{first_fault}
 use Rattle.formulas.proofs.Rows.{not_refused}
 use Rattle.formulas.specs.Evaluation.{Marks}
 use Rattle.formulas.specs.Lines.{Wellformed, formula}
-use Rattle.explanations.specs.Ways.{first_of, lead, First, FirstMarked, Marked, Way, move_text, moves_text}
+use Rattle.formulas.specs.Marked.{FirstMarked}
+use Rattle.explanations.specs.Ways.{first_of, lead, First, Marked, Way, move_text, moves_text}
 use Rattle.explanations.specs.declared.formula.FormulaLine.{FormulaLine}
 use Rattle.explanations.specs.Parts.{Leads}
 

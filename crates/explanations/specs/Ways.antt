@@ -29,11 +29,6 @@ pub record First (m : Meaning) (s a : ℕ) (f : Formula) (t : ℕ) : Type 0 wher
   pub holds : Holds m t f
   pub none_before : (k u : ℕ) → k < place → slice_get (m.steps s) k ≡ Some (a, u) → Holds m u f → ⊥
 
--- the same of the steps themselves, where a row marks the states where f holds with 1
-abbrev pub FirstMarked : List (ℕ × ℕ) → ℕ → List ℕ → Option ℕ → Type 0
-FirstMarked steps a row None = (k u : ℕ) → slice_get steps k ≡ Some (a, u) → slice_index row u ≢ 1
-FirstMarked steps a row (Some t) = (place : ℕ) × (slice_get steps place ≡ Some (a, t)) × (slice_index row t ≡ 1) × ((k u : ℕ) → k < place → slice_get steps k ≡ Some (a, u) → slice_index row u ≢ 1)
-
 -- the marks of well-formed lines at every state
 pub record Marked (m : Meaning) (lines : List Line) (work : List ℕ) : Type 0 where
   pub well : Wellformed lines

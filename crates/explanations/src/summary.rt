@@ -33,7 +33,7 @@ impl fmt::Display for VerdictName {
 fn push_procedure<S: System>(
     out: &mut String,
     side: Side,
-    version: &Version<'_, N, S>,
+    version: &Version<'_, S>,
 ) -> Result<(), AllocError>
     ensures { OnOk result (string_bytes out.new ≡ string_bytes out.old ++ procedure_text side (word_text version.now.given.word) (S.meaning version.now.procedure)) }
 {
@@ -61,8 +61,8 @@ fn push_verdict(out: &mut String, report: Report) -> Result<(), AllocError>
 // Both words with their tables, the verdict, and the classes of all states.
 pub fn push_summary<S: System>(
     out: &mut String,
-    left: &Version<'_, N, S>,
-    right: &Version<'_, N, S>,
+    left: &Version<'_, S>,
+    right: &Version<'_, S>,
     report: Report,
     classes: &[u16],
 ) -> Result<(), AllocError>

@@ -9,7 +9,7 @@ use crate::summary::push_summary;
 use crate::version::Version;
 use comparison::compare;
 use formulas::Line;
-use lts::System;
+use lts::Source;
 use refusals::Fault;
 use std::alloc::{AllocError, Global};
 
@@ -33,8 +33,8 @@ fn push_refusal<V, F: Fault>(
 // The comparison of two versions, in buffers of so many lines and class numbers.
 fn compared<const N: usize, S: Source<N>, const LINES: usize, const CLASSES: usize>(
     heap: Global,
-    left: &Version<'_, N, S>,
-    right: &Version<'_, N, S>,
+    left: &Version<'_, S>,
+    right: &Version<'_, S>,
 ) -> Result<String, AllocError>
     requires few { LINES ≤ 1021 }
     requires lines { 4 * (N + N) - 3 ≤ LINES }
@@ -63,8 +63,8 @@ pub fn told<
     const CLASSES: usize,
 >(
     heap: Global,
-    left: Result<Version<'_, N, S>, F>,
-    right: Result<Version<'_, N, S>, F>,
+    left: Result<Version<'_, S>, F>,
+    right: Result<Version<'_, S>, F>,
 ) -> Result<String, AllocError>
     requires few { LINES ≤ 1021 }
     requires lines { 4 * (N + N) - 3 ≤ LINES }

@@ -12,17 +12,17 @@ use terms::Term;
 use terms::fault::TermFault;
 
 #[derive(Drop)]
-pub struct Version<'a, const N: usize, S: Source<N>> {
+pub struct Version<'a, S: System> {
     pub given: Given<'a>,
     pub procedure: S,
     ghost denoted: { ∥ Denotes (input_of given) (S.meaning procedure) ∥₁ },
 }
 
-impl<'a> Version<'a, 64, Term> {
+impl<'a> Version<'a, Term> {
     // The term that a text spells.
-    pub fn of_text(text: &'a [u8]) -> Result<Version<'a, 64, Term>, TermFault>
+    pub fn of_text(text: &'a [u8]) -> Result<Version<'a, Term>, TermFault>
         ensures refuses { refusal result ≡ first_refusal text.entry.now }
-        ensures denotes { IfOk result (λ v. (v.given.word ≡ words.Term text.entry) × Denotes (input_of v.given) (⟦<Term as Source<64>>⟧.meaning v.procedure)) }
+        ensures denotes { IfOk result (λ v. (v.given.word ≡ words.Term text.entry) × Denotes (input_of v.given) (⟦<Term as System>⟧.meaning v.procedure)) }
     {
         let procedure = Term::read(text)?;
         let word = Word::Term(text);
@@ -31,11 +31,11 @@ impl<'a> Version<'a, 64, Term> {
     }
 }
 
-impl<'a> Version<'a, 128, Parsed> {
+impl<'a> Version<'a, Parsed> {
     // What a word names.
-    pub fn of_given(given: Given<'a>) -> Result<Version<'a, 128, Parsed>, InputFault>
+    pub fn of_given(given: Given<'a>) -> Result<Version<'a, Parsed>, InputFault>
         ensures refuses { refusal result ≡ first_refusal_of (input_of given.entry) }
-        ensures denotes { IfOk result (λ v. (v.given ≡ given.entry) × Denotes (input_of v.given) (⟦<Parsed as Source<128>>⟧.meaning v.procedure)) }
+        ensures denotes { IfOk result (λ v. (v.given ≡ given.entry) × Denotes (input_of v.given) (⟦<Parsed as System>⟧.meaning v.procedure)) }
     {
         let procedure = Parsed::read(given.input())?;
         Ok(Version { given, procedure })

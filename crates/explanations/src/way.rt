@@ -4,11 +4,11 @@ ghost use Rattle.theory.specs.Formulas.{Holds};
 ghost use Rattle.listings.specs.Offsets.{action_offset};
 ghost use Rattle.explanations.specs.Givens.{word_way_text};
 ghost use Rattle.explanations.specs.Parts.{Leads, shown};
-ghost use Rattle.explanations.specs.Ways.{FirstMarked, Marked, Way, offset_text, way_text, move_text, moves_text};
+ghost use Rattle.explanations.specs.Ways.{Marked, Way, offset_text, way_text, move_text, moves_text};
 
 use crate::formula::{FormulaLine, Parts};
 use drawings::ActionName;
-use formulas::evaluate;
+use formulas::{evaluate, first_marked};
 use inputs::Word;
 use listings::action_offset;
 use lts::System;
@@ -33,26 +33,6 @@ fn lead<'a>(formula: FormulaLine<'a>) -> Option<(u8, FormulaLine<'a>)>
     }
 }
 
-// The target of the first listed step of state s, by the action, to a state that the row marks.
-fn first_step<S: System>(
-    source: &S,
-    s: usize,
-    action: u8,
-    row: &[u8],
-) -> Option<u8>
-    requires { (S.meaning source.now).count ≤ length row.now }
-    ensures { FirstMarked ((S.meaning source.now).steps s) action row.now result }
-{
-    for k in 0..source.step_count(s) {
-        if let Some((a, t)) = source.step(s, k) {
-            if a == action && row[t as usize] == 1 {
-                return Some(t);
-            }
-        }
-    }
-    None
-}
-
 // The steps from the start on the way of a formula that holds there, by the marks of its lines.
 fn follow<S: System>(
     heap: Global,
@@ -70,7 +50,7 @@ fn follow<S: System>(
     let mut rest = formula;
     while let Some((action, next)) = lead(rest) {
         let row = &work[next.line as usize * n..];
-        let Some(target) = first_step(source, s, action, row) else {
+        let Some(target) = first_marked(source, s, action, row) else {
             unreachable()
         };
         steps.push((action, target))?;

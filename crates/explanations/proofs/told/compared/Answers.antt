@@ -12,4 +12,4 @@ pub push_outcome-requires : goal.push_outcome-requires
 push_outcome-requires g c =
     let p = c.args.left.now.procedure in
     let q = c.args.right.now.procedure in
-    reported_tellable (g.S.System.meaning p) (g.S.System.meaning q) _ _ _ c.in-Ok.report c.compare.new.lines c.compare.new.classes g.S.Source.bounded (g.met.S.System.lawful p).few (g.met.S.System.lawful q).few (omega (arith, c.compare.auto.lines, c.requires.lines)) (omega (arith, c.compare.auto.lines, c.requires.few)) c.in-Ok.ensures
+    reported_tellable (g.S.System.meaning p) (g.S.System.meaning q) _ _ _ c.in-Ok.report c.compare.new.lines c.compare.new.classes g.S.Source.bounded (g.met.S.Source.fits p) (g.met.S.Source.fits q) (omega (arith, c.compare.auto.lines, c.requires.lines)) (omega (arith, c.compare.auto.lines, c.requires.few)) c.in-Ok.ensures

@@ -15,7 +15,7 @@ unreachable-requires g c =
     let underway = c.loop-action.invariant.1 in
     let led = leads_over lines rest next c.in-Some.action c.loop-action.invariant.0 c.in-Some.ensures in
     let holds = holds_lead m lawful lines c.args.formula.line (vec_items c.loop-action.steps) c.loop-action.s rest.line c.in-Some.action next.line underway (led.1, led.2) in
-    found_by_marks lawful lines c.args.work.now _ c.states-n.result c.loop-action.s c.in-Some.action next.line c.requires.marked c.states-n.ensures (take_rest c.args.work.now (next.line * c.states-n.result)) (omega (arith, led.1, underway.inside)) c.in_default-first_step.ensures holds
+    found_by_marks lawful lines c.args.work.now _ c.states-n.result c.loop-action.s c.in-Some.action next.line c.requires.marked c.states-n.ensures (take_rest c.args.work.now (next.line * c.states-n.result)) (omega (arith, led.1, underway.inside)) c.in_default-first_marked.ensures holds
 
 pub loop-action-preserved : goal.loop-action-preserved
 loop-action-preserved g c =
@@ -24,10 +24,10 @@ loop-action-preserved g c =
     let lines = c.args.formula.lines.now in
     let rest = c.loop-action.rest in
     let next = c.in-Some.next in
-    let target = c.in-Some-first_step.target in
+    let target = c.in-Some-first_marked.target in
     let underway = c.loop-action.invariant.1 in
     let led = leads_over lines rest next c.in-Some.action c.loop-action.invariant.0 c.in-Some.ensures in
-    let first = first_by_marks lawful lines c.args.work.now _ c.states-n.result c.loop-action.s c.in-Some.action next.line c.requires.marked c.states-n.ensures (take_rest c.args.work.now (next.line * c.states-n.result)) (omega (arith, led.1, underway.inside)) target c.in-Some-first_step.ensures in
+    let first = first_by_marks lawful lines c.args.work.now _ c.states-n.result c.loop-action.s c.in-Some.action next.line c.requires.marked c.states-n.ensures (take_rest c.args.work.now (next.line * c.states-n.result)) (omega (arith, led.1, underway.inside)) target c.in-Some-first_marked.ensures in
     let further = step_further m lawful lines c.args.formula.line (vec_items c.loop-action.steps) c.loop-action.s rest.line c.in-Some.action next.line underway (led.1, led.2) target first in
     (led.0, subst (λ xs. Underway m lines c.args.formula.line xs target next.line) (sym c.in_ok-push.ensures.items) further)
 

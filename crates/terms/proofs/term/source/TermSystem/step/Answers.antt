@@ -2,7 +2,7 @@ use Rattle.std.proofs.Common.{sym, ap, ◌∙◌}
 use Rattle.std.specs.List.{slice_get}
 use Rattle.terms.specs.Graph.{leads}
 use Rattle.terms.proofs.Asking.{copied_get}
-use Rattle.terms.proofs.term.source.TermSource64.step.Goals as goal
+use Rattle.terms.proofs.term.source.TermSystem.step.Goals as goal
 
 pub returns-in_err-steps : goal.returns-in_err-steps
 returns-in_err-steps c = c.from_residual.ensures ∙ sym (ap (λ o. slice_get (leads o) c.args.k) c.in_err-steps.ensures)
