@@ -1,6 +1,4 @@
-use Rattle.std.proofs.Common.{◌*◌, arith}
-use Rattle.std.proofs.lemmas.List.{take_rest, length-drop}
-use Rattle.formulas.proofs.Marking.{names_both, names_step, place_inside, row_inside, holds_true, holds_end, holds_not, holds_second, fails_first, holds_step}
+use Rattle.formulas.proofs.Marking.{names_both, place_inside, holds_true, holds_end, holds_not, holds_second, fails_first, holds_step}
 use Rattle.formulas.proofs.evaluation.holds.Goals as goal
 
 pub bounds-work-i-in-Both : goal.bounds-work-i-in-Both
@@ -12,14 +10,6 @@ pub bounds-work-j : goal.bounds-work-j
 bounds-work-j g c =
     let i = names_both c.requires.ready c.states-n.ensures c.in-Both.is in
     place_inside c.requires.ready c.states-n.ensures c.in-Both.j c.args.s i.1 c.requires.state
-
-pub steps_into-requires : goal.steps_into-requires
-steps_into-requires g c =
-    let i = names_step c.requires.ready c.states-n.ensures c.in-Step.is in
-    let r = row_inside c.requires.ready c.states-n.ensures c.in-Step.i i in
-    let e = c.states-n.ensures in
-    let d = length-drop (c.in-Step.i * c.states-n.result) c.args.work.now in
-    rw (take_rest c.args.work.now (c.in-Step.i * c.states-n.result)) (omega arith)
 
 pub returns-in-True : goal.returns-in-True
 returns-in-True g c =
