@@ -1,5 +1,5 @@
 // A term's table of nodes: each stands behind its children.
-ghost use Rattle.std.specs.Prelude.{◌≡◌, ℕ, ◌<◌, ◌≤◌, true, length, slice_index_or};
+ghost use Rattle.std.specs.Prelude.{◌≡◌, ℕ, ◌<◌, ◌≤◌, length, slice_index_or};
 ghost use Rattle.std.specs.Coded.{Π_prop, →_prop};
 ghost use Rattle.terms.specs.Nodes.{Lower, Lower-prop};
 ghost use Rattle.terms.specs.declared.node.Node.TheVariants.{Action};
@@ -20,7 +20,7 @@ pub struct Nodes {
 }
 
 impl Nodes {
-    ghost use Rattle.std.specs.Prelude.{◌≡◌, ◌+◌, ◌<◌, ◌≤◌, true, [], take};
+    ghost use Rattle.std.specs.Prelude.{◌≡◌, ◌+◌, ◌<◌, ◌≤◌, [], take};
     ghost use Rattle.terms.specs.Assembly.{plus, times};
     ghost use Rattle.terms.specs.Nodes.{grow, make, Lower};
     ghost use Rattle.terms.specs.Names.{Below, known, one};
