@@ -53,7 +53,7 @@ fn refine_all<S: System>(
         }
         classes = next;
     }
-    unreachable()
+    unreachable!()
 }
 
 // The right start is state `right`; there are at most `most` states, and so fewer rounds. Where the steps

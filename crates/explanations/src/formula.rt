@@ -47,7 +47,7 @@ impl<'a> FormulaLine<'a> {
                 FormulaLine { lines, line: j },
             ),
             Line::Step(action, i) => Parts::Step(action, FormulaLine { lines, line: i }),
-            Line::Unknown(_) => unreachable(),
+            Line::Unknown(_) => unreachable!(),
         }
     }
 }

@@ -40,7 +40,7 @@ fn push_procedure<S: System>(
     match version.given.word {
         Word::Term(text) => {
             let Ok(text) = from_utf8(text) else {
-                unreachable()
+                unreachable!()
             };
             write!(out, "{side} {text}\n")?;
         }

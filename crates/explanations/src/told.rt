@@ -46,7 +46,7 @@ fn compared<const N: usize, S: Source<N>, const LINES: usize, const CLASSES: usi
     let mut lines = [Line::True; LINES];
     let mut classes = [0; CLASSES];
     let Ok(report) = compare(p, q, &mut lines, &mut classes) else {
-        unreachable()
+        unreachable!()
     };
     let mut out = String::new(heap);
     push_summary(&mut out, left, right, report, &classes)?;

@@ -51,7 +51,7 @@ fn follow<S: System>(
     while let Some((action, next)) = lead(rest) {
         let row = &work[next.line as usize * n..];
         let Some(target) = first_marked(source, s, action, row) else {
-            unreachable()
+            unreachable!()
         };
         steps.push((action, target))?;
         s = target as usize;
@@ -73,7 +73,7 @@ pub fn way<S: System>(
 {
     let mut work = [0; MOST_MARKS];
     let Ok(_) = evaluate(source, formula.lines, formula.line as usize, 0, &mut work) else {
-        unreachable()
+        unreachable!()
     };
     follow(heap, source, formula, &work)
 }
