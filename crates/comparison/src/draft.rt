@@ -14,6 +14,7 @@ pub struct Weighed {
     pub weight: u16,
 }
 
+// The next round so far, and what its states are held against.
 #[derive(Drop)]
 pub struct Draft {
     pub next: Partition,

@@ -14,6 +14,7 @@ pub struct Run {
     pub count: u16,
 }
 
+// The states with their end marks, and the steps of all of them one behind the other.
 #[derive(Drop)]
 pub struct Layout {
     pub states: usize,
@@ -45,6 +46,7 @@ impl Layout {
         ensures room { IfSome result (λ _. self.old.used < 2048) }
         ensures pushed { IfSome result (λ _. self.new ≡ pushed self.old (action, target)) }
     {
+        // An `if` in place of `get_mut`, behind which no proof knows what the steps become.
         if self.used == PLACES {
             return None;
         }

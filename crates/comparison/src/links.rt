@@ -14,12 +14,13 @@ pub struct Chain {
     pub last: u16,
 }
 
+// Each split, with the chain of its class.
 #[derive(Drop)]
 pub struct Links {
     // The splits so far, in their order.
     pub splits: [Split; 256],
     pub made: usize,
-    // Those of each class that has any.
+    // The chain of each class that was split.
     pub chains: [Option<Chain>; 256],
     // The next split of the same class, for each split.
     pub nexts: [Option<u16>; 256],

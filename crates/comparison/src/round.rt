@@ -4,7 +4,7 @@ ghost use Rattle.std.specs.Prelude.{ℕ, ◌<◌, slice_index};
 use crate::partition::Partition;
 use lts::System;
 
-// The round behind round k, whose classes these are.
+// The round behind round k, which has these classes: each is below 256, so that the table has cells for it.
 #[derive(Drop)]
 pub struct Round<'a, S: System> {
     pub system: &'a S,
