@@ -1,20 +1,6 @@
-use Rattle.std.proofs.Common.{◌<◌, string_bytes, arith, rules}
-use Rattle.drawings.proofs.Rows.{nth_drop, stepped_more, stepped_all}
+use Rattle.std.proofs.Common.{string_bytes}
+use Rattle.drawings.proofs.Rows.{stepped_more, stepped_all}
 use Rattle.drawings.proofs.procedure.push_steps.Goals as goal
-
-pub overflow_add-k : goal.overflow_add-k
-overflow_add-k g c =
-    let m = g.S.Source.meaning c.args.source.now in
-    let h = (nth_drop (m.steps c.args.s) c.loop-action.k (c.in-Some.action, c.in-Some.target) c.in-Some.ensures).0 in
-    let n = (g.S.Source.lawful c.args.source.now).short c.args.s in
-    let b : c.loop-action.k < 4096 = omega arith in
-    search rules
-
-pub loop-action-smaller : goal.loop-action-smaller
-loop-action-smaller g c =
-    let m = g.S.Source.meaning c.args.source.now in
-    let h = (nth_drop (m.steps c.args.s) c.loop-action.k (c.in-Some.action, c.in-Some.target) c.in-Some.ensures).0 in
-    omega arith
 
 pub loop-action-preserved : goal.loop-action-preserved
 loop-action-preserved g c =
