@@ -9,7 +9,7 @@ use crate::summary::push_summary;
 use crate::version::Version;
 use comparison::compare;
 use formulas::Line;
-use lts::Source;
+use lts::System;
 use refusals::Fault;
 use std::alloc::{AllocError, Global};
 
