@@ -38,6 +38,7 @@ impl Source<128> for Parsed {
 
     ghost lawful = { parsed_lawful };
 
+    // Each call is passed on by a match: a helper over both kinds would take a closure over any `Source`, and there is none.
     fn states(&self) -> usize {
         match self {
             Parsed::Term(term) => term.states(),
