@@ -84,7 +84,8 @@ fn write_verdict(verdict: Verdict, lines: &[Line], numbers: &mut [u16])
     }
 }
 
-// Compares two procedures over lines of its own, and leaves those that the report names as numbers.
+// Compares two procedures over lines of its own, and leaves those that the report names as numbers. Numbers and classes are
+// places that C lends, each by itself.
 fn compare_into(
     left: &Parsed,
     right: &Parsed,

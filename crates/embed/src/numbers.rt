@@ -72,13 +72,13 @@ pub fn write_lines(lines: &[Line], places: &mut [u16])
 fn line_of(letter: u16, first: u16, second: u16) -> Line
     ensures { result ≡ line_of letter first second }
 {
-    match letter {
-        84 => Line::True,
-        69 => Line::End,
-        78 => Line::Not(first),
-        65 => Line::Both(first, second),
-        68 => Line::Step(first.min(255) as u8, second),
-        _ => Line::Unknown(letter.min(255) as u8),
+    match letter.min(255) as u8 {
+        b'T' => Line::True,
+        b'E' => Line::End,
+        b'N' => Line::Not(first),
+        b'A' => Line::Both(first, second),
+        b'D' => Line::Step(first.min(255) as u8, second),
+        letter => Line::Unknown(letter),
     }
 }
 

@@ -35,6 +35,7 @@ impl System for Parsed {
 
     ghost lawful = { λ x. wider (lit≤ tt) (parsed_lawful x) };
 
+    // Each call is passed on by a match: a helper over both kinds would take a closure over any `Source`, and there is none.
     fn states(&self) -> usize {
         match self {
             Parsed::Term(term) => term.states(),

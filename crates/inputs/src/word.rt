@@ -19,10 +19,7 @@ impl<'a> Word<'a> {
         ensures { Names text.now result }
     {
         match text {
-            [b'@', path @ ..] => match from_utf8(path) {
-                Ok(path) => Some(Word::File(path)),
-                Err(_) => None,
-            },
+            [b'@', path @ ..] => from_utf8(path).ok().map(Word::File),
             _ => Some(Word::Term(text)),
         }
     }

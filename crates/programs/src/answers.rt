@@ -17,7 +17,7 @@ fn warn(rt: &HostRuntime, word: &[u8]) -> io::Result<()> {
 #[derive(Drop)]
 pub struct Answers {
     out: BufWriter<Stdout>,
-    // Whether something was told, and whether some file was not read.
+    // Whether something was told, and whether some file was not read: each can be without the other.
     told: bool,
     missed: bool,
 }
