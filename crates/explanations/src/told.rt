@@ -9,7 +9,7 @@ use crate::summary::push_summary;
 use crate::version::Version;
 use comparison::compare;
 use formulas::Line;
-use lts::System;
+use lts::Source;
 use refusals::Fault;
 use std::alloc::{AllocError, Global};
 
