@@ -17,3 +17,4 @@ pub mod Bounds
 pub mod Laying
 pub mod Reading
 pub mod Transfer
+pub mod Walking

@@ -3,7 +3,7 @@ ghost use Rattle.std.specs.Prelude.{◌≡◌, ◌+◌, ◌<◌, ◌≤◌, leng
 ghost use Rattle.comparison.specs.Layouts.{pushed, LaidOut};
 
 use crate::reach::Reach;
-use lts::System;
+use lts::{Steps, System};
 
 const PLACES: usize = 2048;
 
@@ -63,11 +63,9 @@ impl Layout {
     {
         let from = self.used;
         seen.clear();
-        for k in 0..system.step_count(s) {
-            if let Some((action, target)) = system.step(s, k) {
-                if seen.put(action, target as u16) {
-                    self.push(action, target)?;
-                }
+        for (action, target) in Steps::of(system, s) {
+            if seen.put(action, target as u16) {
+                self.push(action, target)?;
             }
         }
         self.ends[s] = system.is_end(s);

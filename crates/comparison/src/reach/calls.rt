@@ -4,7 +4,7 @@ ghost use Rattle.comparison.specs.Reach.{holds, weight, numbers, Cleared, Put, R
 
 use crate::reach::Reach;
 use crate::round::Round;
-use lts::System;
+use lts::{Steps, System};
 
 impl Reach {
     pub fn new() -> Reach {
@@ -52,11 +52,9 @@ impl Reach {
     {
         self.clear();
         let mut pairs = 0;
-        for k in 0..round.system.step_count(t) {
-            if let Some((action, target)) = round.system.step(t, k) {
-                if self.put(action, round.before.class[target as usize]) {
-                    pairs += 1;
-                }
+        for (action, target) in Steps::of(round.system, t) {
+            if self.put(action, round.before.class[target as usize]) {
+                pairs += 1;
             }
         }
         pairs
@@ -66,12 +64,10 @@ impl Reach {
     pub fn missing<S: System>(&self, round: &Round<'_, S>, t: usize) -> Option<(u8, u16)>
         ensures { Missing (numbers round.now.before.now.class) ((S.meaning round.now.system.now).steps t) self.now result }
     {
-        for k in 0..round.system.step_count(t) {
-            if let Some((action, target)) = round.system.step(t, k) {
-                let into = round.before.class[target as usize];
-                if !self.has(action, into) {
-                    return Some((action, into));
-                }
+        for (action, target) in Steps::of(round.system, t) {
+            let into = round.before.class[target as usize];
+            if !self.has(action, into) {
+                return Some((action, into));
             }
         }
         None

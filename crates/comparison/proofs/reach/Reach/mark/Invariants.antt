@@ -1,7 +1,10 @@
-use Rattle.std.proofs.Common.{◌≡◌, take}
+use Rattle.std.proofs.Common.{◌≡◌, take, drop, length}
 use Rattle.comparison.specs.Reach.{numbers, total, Reached}
 use Rattle.comparison.proofs.reach.Reach.mark.Given as goal
 
-abbrev pub invariant-loop-k : goal.invariant-loop-k
-invariant-loop-k g l =
-    record { reached : Reached (numbers l.round.before.now.class) (take l.k ((g.S.System.meaning l.round.system.now).steps l.t)) l.self; counted : l.pairs ≡ total l.self }
+abbrev pub invariant-loop-action : goal.invariant-loop-action
+invariant-loop-action g l =
+    let it = l.action-iterator in
+    let steps = (g.S.System.meaning l.round.system.now).steps l.t in
+    let k = length l.yielded in
+    record { left : drop it.next ((g.S.System.meaning it.source.now).steps it.state) ≡ drop k steps; reached : Reached (numbers l.round.before.now.class) (take k steps) l.self; counted : l.pairs ≡ total l.self }
