@@ -11,6 +11,7 @@ use lts::Source;
 use terms::Term;
 use terms::fault::TermFault;
 
+// The procedure is what the word denotes, or the file that it names.
 #[derive(Drop)]
 pub struct Version<'a, const N: usize, S: Source<N>> {
     pub given: Given<'a>,
