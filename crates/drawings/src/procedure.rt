@@ -100,8 +100,8 @@ fn push_last(out: &mut String, form: Form) -> Result<(), AllocError>
     }
 }
 
-// The steps out of state s, in their order.
-fn push_steps<S: System>(
+// The steps out of state s, in their order. Counting up to `step_count` would still ask for an option at each step.
+fn push_steps<const N: usize, S: Source<N>>(
     out: &mut String,
     form: Form,
     source: &S,

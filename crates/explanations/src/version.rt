@@ -11,6 +11,7 @@ use lts::System;
 use terms::Term;
 use terms::fault::TermFault;
 
+// The procedure is what the word denotes, or the file that it names.
 #[derive(Drop)]
 pub struct Version<'a, S: System> {
     pub given: Given<'a>,
