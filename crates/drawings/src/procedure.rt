@@ -100,7 +100,7 @@ fn push_last(out: &mut String, form: Form) -> Result<(), AllocError>
     }
 }
 
-// The steps out of state s, in their order. Counting up to `step_count` would still ask for an option at each step.
+// The steps out of state s, in their order.
 fn push_steps<const N: usize, S: Source<N>>(
     out: &mut String,
     form: Form,
@@ -118,12 +118,7 @@ fn push_steps<const N: usize, S: Source<N>>(
 }
 
 // All that is told of state s.
-fn push_row<S: System>(
-    out: &mut String,
-    form: Form,
-    source: &S,
-    s: usize,
-) -> Result<(), AllocError>
+fn push_row<S: System>(out: &mut String, form: Form, source: &S, s: usize) -> Result<(), AllocError>
     ensures { OnOk result (string_bytes out.new ≡ string_bytes out.old ++ row_text form (S.meaning source.now) s) }
 {
     let end = source.is_end(s);
@@ -155,11 +150,7 @@ fn transition_count<S: System>(source: &S) -> usize
 }
 
 // The whole procedure in a form, behind what is written.
-pub fn push_drawing<S: System>(
-    out: &mut String,
-    form: Form,
-    source: &S,
-) -> Result<(), AllocError>
+pub fn push_drawing<S: System>(out: &mut String, form: Form, source: &S) -> Result<(), AllocError>
     ensures { OnOk result (string_bytes out.new ≡ string_bytes out.old ++ drawing form (S.meaning source.now)) }
 {
     push_head(out, form, transition_count(source), source.states())?;
@@ -170,11 +161,7 @@ pub fn push_drawing<S: System>(
 }
 
 // The whole procedure in a form.
-pub fn draw<S: System>(
-    heap: Global,
-    form: Form,
-    source: &S,
-) -> Result<String, AllocError>
+pub fn draw<S: System>(heap: Global, form: Form, source: &S) -> Result<String, AllocError>
     ensures { IfOk result (λ t. string_bytes t ≡ drawing form (S.meaning source.now)) }
 {
     let mut out = String::new(heap);
