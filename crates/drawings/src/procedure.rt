@@ -101,7 +101,7 @@ fn push_last(out: &mut String, form: Form) -> Result<(), AllocError>
 }
 
 // The steps out of state s, in their order.
-fn push_steps<const N: usize, S: Source<N>>(
+fn push_steps<S: System>(
     out: &mut String,
     form: Form,
     source: &S,
