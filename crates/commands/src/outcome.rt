@@ -1,4 +1,4 @@
-// How a command that was carried out came out.
+// How a command that was carried out came out. A list of calls has another: it hands out clearances, and tells no classes and rounds.
 
 #[derive(Clone, Copy)]
 pub enum Outcome {

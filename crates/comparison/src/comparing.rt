@@ -34,6 +34,7 @@ fn compare_pair<'a, 'b, const M: usize, const N: usize, L: Source<M>, R: Source<
     })
 }
 
+// Two buffers and no struct of both: each is the caller's own, and is named in the promise by itself.
 // The joined states are the left source's, then the right's. The class of each is left in `classes`; where the
 // starts differ, lines that tell them apart are left in `lines`.
 pub fn compare<const M: usize, const N: usize, L: Source<M>, R: Source<N>>(

@@ -26,3 +26,9 @@ mod starts;
 pub use comparing::compare;
 pub use fault::CompareFault;
 pub use report::{Report, Verdict};
+
+// Enough lines for any two procedures, of 128 states each.
+pub const MOST_LINES: usize = 1021;
+
+// Enough class numbers for them.
+pub const MOST_CLASSES: usize = 256;

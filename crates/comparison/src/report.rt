@@ -1,5 +1,6 @@
 // What a comparison answers.
 
+// The two answers by their names: where a difference were an option, its absence would not say "same".
 #[derive(Clone, Copy, PartialEq, Eq, Debug)]
 pub enum Verdict {
     Same,

@@ -8,16 +8,11 @@ ghost use Rattle.console.specs.Answers.{Did};
 ghost use Rattle.console.specs.States.{state};
 
 use commands::{ConsoleFault, Outcome};
-use comparison::Verdict;
+use comparison::{MOST_CLASSES, MOST_LINES, Verdict};
 use formulas::Line;
 use lts::{ActionMap, Mapped};
 use shelves::{Shelf, ShelfFault};
 use terms::Term;
-
-// Places for two procedures of 128 states each: more than a submission can want.
-const LINES: usize = 1021;
-
-const CLASSES: usize = 256;
 
 // Files the term of a text, as the map has it.
 pub(crate) fn file(
@@ -45,8 +40,8 @@ pub(crate) fn submit(
     ensures short { length (outcome_text result) ≤ 18 }
 {
     let term = Term::read(text)?;
-    let mut lines = [Line::True; LINES];
-    let mut classes = [0; CLASSES];
+    let mut lines = [Line::True; MOST_LINES];
+    let mut classes = [0; MOST_CLASSES];
     let source = Mapped { map, source: &term };
     match shelf.submit(slot as usize, &source, &mut lines, &mut classes) {
         Ok(report) => Ok(Outcome::Same {

@@ -1,4 +1,4 @@
-// How a procedure is written out.
+// How a procedure is written out. The set is closed, and a word of the command line picks one, so each piece matches on it.
 
 #[derive(Clone, Copy)]
 pub enum Form {

@@ -5,13 +5,10 @@ ghost use Rattle.embed.specs.Comparisons.{refused_by, compared_as, line_count, r
 ghost use Rattle.embed.specs.Numbers.{input_of, numbers_of};
 
 use crate::numbers::{given, layer_number, place_numbers, write_lines};
-use comparison::{Report, Verdict, compare};
+use comparison::{MOST_LINES, Report, Verdict, compare};
 use formulas::Line;
 use inputs::{Input, Parsed};
 use refusals::{Fault, Refusal};
-
-// Enough for any two inputs, of 128 states each.
-const MOST_LINES: usize = 1021;
 
 // What a comparison answers. Where `number` is not 0 it was refused. It crosses to C, so it is all numbers, and 0 is what is
 // not told.

@@ -5,12 +5,9 @@ ghost use Rattle.embed.specs.Evaluations.{refused, told, Evaluates, Answered};
 ghost use Rattle.embed.specs.Numbers.{input_of};
 
 use crate::numbers::{given, layer_number, place_numbers, read_lines};
-use formulas::{EvaluationFault, Line, evaluate};
+use formulas::{EvaluationFault, Line, MOST_LINES, evaluate};
 use inputs::Parsed;
 use refusals::{Fault, Refusal};
-
-// The most lines of a formula.
-const MOST_LINES: usize = 1024;
 
 // What an evaluation answers. Where `number` is not 0 it was refused. It crosses to C, so it is all numbers, and 0 is what is
 // not told.

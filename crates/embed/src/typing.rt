@@ -32,6 +32,7 @@ fn typed(input: &[u8], places: &mut [u8]) -> Session
     let mut console = Console::new();
     let mut rest = input;
     let mut written = 0;
+    // No `for` over the lines: it stops where the next one may find no room.
     while !rest.is_empty() && places.len() - written >= ROOM {
         let (line, later) = split_line(rest);
         let answer = console.answer(line);

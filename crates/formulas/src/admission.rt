@@ -4,12 +4,10 @@ ghost use Rattle.std.specs.Result.{result_err};
 ghost use Rattle.formulas.specs.Lines.{fits};
 ghost use Rattle.formulas.specs.Faults.{misfit_from, first_fault};
 
+use crate::MOST_LINES;
 use crate::fault::EvaluationFault;
 use crate::line::Line;
 use lts::System;
-
-// The most lines of a formula.
-const MOST_LINES: usize = 1024;
 
 // The last action.
 const LAST_ACTION: u8 = 63;

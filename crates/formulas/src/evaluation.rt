@@ -59,6 +59,7 @@ pub fn evaluate<S: System>(
     ensures { Evaluated (S.meaning source.now) lines.now line state work.old result work.new }
 {
     admitted(source, lines, line, state, work.len())?;
+    // By index, since a line's number says where its marks stand.
     for k in 0..lines.len() {
         mark_line(source, lines, k, work);
     }

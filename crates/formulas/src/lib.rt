@@ -12,3 +12,6 @@ pub use evaluation::evaluate;
 pub use fault::EvaluationFault;
 pub use line::Line;
 pub use marked::first_marked;
+
+// The most lines of a formula.
+pub const MOST_LINES: usize = 1024;

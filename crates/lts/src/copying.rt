@@ -8,7 +8,7 @@ use crate::source::Source;
 use crate::steps::Steps;
 use crate::system::System;
 
-// The number of steps that a source lists in all.
+// The number of steps that a source lists in all. A sum by a chain would need a clause on its closure.
 fn step_total<S: System>(source: &S) -> usize
     ensures { result ≡ total (S.meaning source.now) }
 {

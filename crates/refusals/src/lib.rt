@@ -22,6 +22,7 @@ pub enum Layer {
     Console,
 }
 
+// The number is the one that is published, by which people look a refusal up. In code a refusal is a fault, of an enum of its layer.
 #[derive(Clone, Copy, PartialEq, Eq, Debug)]
 pub struct Refusal {
     pub number: u8,
@@ -29,7 +30,8 @@ pub struct Refusal {
     pub place: Option<usize>,
 }
 
-// A fault of one layer. What it tells is fixed by the layer's own definition, `told`.
+// A fault of one layer. What it tells is fixed by the layer's own definition, `told`, which promises over faults of any kind name; so it is
+// no `From`.
 pub trait Fault {
     ghost told: { Self → Refusal };
 

@@ -6,6 +6,7 @@ use crate::call::Numbers;
 
 pub struct Clearance {
     pub(crate) numbers: Numbers,
+    // A flag in the token: it may be let go only once it was spent, which is a fact and no type.
     pub(crate) spent: bool,
 }
 

@@ -8,15 +8,10 @@ use crate::call::{Answer, Outcome, ShelfCall};
 use crate::clearance::Clearance;
 use crate::fault::ShelfFault;
 use crate::shelf::Shelf;
-use comparison::Verdict;
+use comparison::{MOST_CLASSES, MOST_LINES, Verdict};
 use formulas::Line;
 use lts::Source;
 use refusals::Refusal;
-
-// Enough for any two sources, of 128 states each.
-const MOST_LINES: usize = 1021;
-
-const MOST_CLASSES: usize = 256;
 
 // How many steps the formula of a verdict nests.
 fn depth(verdict: Verdict) -> u16

@@ -15,7 +15,7 @@ pub enum Record<'a> {
 }
 
 impl<'a> Record<'a> {
-    // The record of a kind, by its number.
+    // The record of a kind, by the number that the file has. Elsewhere a kind is its case.
     pub(crate) fn new(kind: u16, body: &'a [u8]) -> Record<'a>
         ensures kind { kind_of result ≡ sort kind }
         ensures body { body_of result ≡ body.now }
