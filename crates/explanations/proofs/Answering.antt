@@ -4,9 +4,9 @@ use Rattle.refusals.specs.declared.Refusal.{Refusal}
 use Rattle.lts.specs.Meaning.{Meaning}
 use Rattle.terms.specs.Graph.{graph}
 use Rattle.inputs.specs.Inputs.{Denotes}
-use Rattle.inputs.specs.Words.{input_of}
+use Rattle.inputs.specs.Words.{input_of, word_of}
 use Rattle.inputs.specs.declared.word.Given.{Given}
-use Rattle.inputs.specs.declared.word.Word.TheVariants.{Term}
+use Rattle.inputs.specs.declared.word.Given.TheVariants.{Term}
 use Rattle.explanations.specs.declared.side.Side.TheVariants.{Left, Right}
 use Rattle.explanations.specs.Contrasts.{Contrasted}
 use Rattle.explanations.specs.Explanations.{Told}
@@ -22,11 +22,11 @@ answered told (Err i) (Ok w) o p Answer Both P Q out e f h k both one two all a 
 answered told (Err i) (Err g) o p Answer Both P Q out e f h k both one two all a = subst (λ x. Answer x p) e (subst (λ y. Answer (Some i) y) f (all i g a))
 
 -- of two terms
-pub terms_told : (g h : Given) (m n : Meaning) {left right : _} (out : List ℕ) → g.word ≡ Term left → h.word ≡ Term right → Denotes (input_of g) m → Denotes (input_of h) n → Contrasted 512 128 g.word h.word m n out → Told left.now right.now out
+pub terms_told : (g h : Given) (m n : Meaning) {left right : _} (out : List ℕ) → g ≡ Term left → h ≡ Term right → Denotes (input_of g) m → Denotes (input_of h) n → Contrasted 512 128 (word_of g) (word_of h) m n out → Told left.now right.now out
 terms_told g h m n {left} {right} out e f d k c =
     let t = denotes_term g m e d in
     let u = denotes_term h n f k in
-    let told : Contrasted 512 128 (Term left) (Term right) (graph t.0) (graph u.0) out = coe 0 1 (i. Contrasted 512 128 (e i) (f i) (t.2 i) (u.2 i) out) c in
+    let told : Contrasted 512 128 (word_of (Term left)) (word_of (Term right)) (graph t.0) (graph u.0) out = coe 0 1 (i. Contrasted 512 128 (word_of (e i)) (word_of (f i)) (t.2 i) (u.2 i) out) c in
     record {
       t = t.0;
       u = u.0;
@@ -43,7 +43,7 @@ terms_told g h m n {left} {right} out e f d k c =
     }
 
 -- of two that are given as words
-pub givens_told : (g h : Given) (m n : Meaning) (out : List ℕ) → Denotes (input_of g) m → Denotes (input_of h) n → Contrasted 1021 256 g.word h.word m n out → GivenTold g h out
+pub givens_told : (g h : Given) (m n : Meaning) (out : List ℕ) → Denotes (input_of g) m → Denotes (input_of h) n → Contrasted 1021 256 (word_of g) (word_of h) m n out → GivenTold g h out
 givens_told g h m n out d k told =
     record {
       p = m;

@@ -1,5 +1,5 @@
 -- The steps of a way stand where they are said to.
-use Rattle.std.proofs.Common.{◌≡◌, ℕ, List, [], ◌∷◌, take, IsAscii, sym, refl, subst, inl, inr}
+use Rattle.std.proofs.Common.{◌≡◌, ℕ, List, [], ◌∷◌, take, IsAscii, sym, subst, inl, inr}
 use Rattle.lts.specs.Laws.Member.{nth_in}
 use Rattle.lts.specs.Meaning.{Meaning, In}
 use Rattle.theory.specs.Formulas.{Formula}
@@ -7,11 +7,10 @@ use Rattle.terms.specs.Grammar.{Spells, sum}
 use Rattle.terms.specs.Graph.{graph}
 use Rattle.terms.specs.Syntax.{Tree}
 use Rattle.inputs.specs.Inputs.{Denotes}
-use Rattle.inputs.specs.Words.{input_of}
+use Rattle.inputs.specs.Words.{input_of, word_of}
 use Rattle.inputs.specs.declared.input.Input.TheVariants as inputs
 use Rattle.inputs.specs.declared.word.Given.{Given}
-use Rattle.inputs.specs.declared.word.Word.{Word}
-use Rattle.inputs.specs.declared.word.Word.TheVariants.{Term, File}
+use Rattle.inputs.specs.declared.word.Given.TheVariants.{Term, File}
 use Rattle.formulas.specs.declared.line.Line.{Line}
 use Rattle.formulas.specs.Lines.{formula}
 use Rattle.comparison.specs.declared.report.Verdict.{Verdict}
@@ -33,18 +32,13 @@ pub followed_stands : (text : List ℕ) (t : Tree) → Spells sum 0 text t → (
 followed_stands text t sp Same lines steps e step h = absurd (subst (λ xs. In step xs) e h)
 followed_stands text t sp (Different n i d) lines steps w step h = way_stands text t sp steps 0 (formula (take n lines) i) w step h
 
--- what a term's word denotes
-pub denotes_term : (g : Given) (m : Meaning) {text : _} → g.word ≡ Term text → Denotes (input_of g) m → Denotes (inputs.Term text) m
-denotes_term g m e h = let P : Word → Type 0 = λ w. Denotes (elim w [ Term text ↦ inputs.Term text | File path ↦ inputs.Table g.file ]) m in subst P e h
+-- what a term's text denotes
+pub denotes_term : (g : Given) (m : Meaning) {text : _} → g ≡ Term text → Denotes (input_of g) m → Denotes (inputs.Term text) m
+denotes_term g m e h = subst (λ x. Denotes (input_of x) m) e h
 
-pub term_ascii : (g : Given) (m : Meaning) {text : _} → g.word ≡ Term text → Denotes (input_of g) m → IsAscii text.now
+pub term_ascii : (g : Given) (m : Meaning) {text : _} → g ≡ Term text → Denotes (input_of g) m → IsAscii text.now
 term_ascii g m e h = spelled_ascii (denotes_term g m e h).1
 
-pub followed_placed : (g : Given) (m : Meaning) → Denotes (input_of g) m → (v : Verdict) (lines : List Line) (steps : List (ℕ × ℕ)) → Followed m v lines steps → Placed g.word steps
-followed_placed g m d v lines steps f = by_word g.word refl
-  where
-    by_word : (w : Word) → g.word ≡ w → Placed w steps
-    by_word (Term text) e =
-        let h = denotes_term g m e d in
-        followed_stands text.now h.0 h.1 v lines steps (subst (λ p. Followed p v lines steps) h.2 f)
-    by_word (File path) e = tt
+pub followed_placed : (g : Given) (m : Meaning) → Denotes (input_of g) m → (v : Verdict) (lines : List Line) (steps : List (ℕ × ℕ)) → Followed m v lines steps → Placed (word_of g) steps
+followed_placed (Term text) m d v lines steps f = followed_stands text.now d.0 d.1 v lines steps (subst (λ p. Followed p v lines steps) d.2 f)
+followed_placed (File path bytes) m d v lines steps f = tt

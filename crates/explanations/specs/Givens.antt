@@ -8,7 +8,7 @@ use Rattle.inputs.specs.declared.word.Word.{Word}
 use Rattle.inputs.specs.declared.word.Word.TheVariants.{Term, File}
 use Rattle.inputs.specs.Faults.{of_input}
 use Rattle.inputs.specs.Inputs.{first_refusal_of, Denotes}
-use Rattle.inputs.specs.Words.{word_text, input_of}
+use Rattle.inputs.specs.Words.{word_text, input_of, word_of}
 use Rattle.formulas.specs.declared.line.Line.{Line}
 use Rattle.formulas.specs.declared.line.Line.TheVariants.{True}
 use Rattle.formulas.specs.Lines.{formula}
@@ -61,8 +61,8 @@ pub record GivenTold (left right : Given) (out : List ℕ) : Type 0 where
   pub compared : Compared p q (replicate 1021 True) (replicate 256 0) (Ok report) lines classes
   pub steps : List (ℕ × ℕ)
   pub followed : Followed p report.verdict lines steps
-  pub placed : Placed left.word steps
-  pub text : out ≡ summary_text (word_text left.word) (word_text right.word) p q report classes ++ word_outcome_text left.word report.verdict lines steps
+  pub placed : Placed (word_of left) steps
+  pub text : out ≡ summary_text (word_text (word_of left)) (word_text (word_of right)) p q report classes ++ word_outcome_text (word_of left) report.verdict lines steps
 
 -- by the refusals of the two
 abbrev pub GivenAnswer : Option InputFault → Option InputFault → Given → Given → List ℕ → Type 0

@@ -1,5 +1,5 @@
 -- The steps that a formula asks for first, followed through a procedure.
-use Rattle.std.specs.Prelude.{◌≡◌, ℕ, ◌*◌, ◌<◌, ◌≤◌, List, [], ◌∷◌, ◌++◌, length, Some, None, codes, decimal, Option, ◌≢◌, slice_index}
+use Rattle.std.specs.Prelude.{◌≡◌, ℕ, ◌*◌, ◌<◌, ◌≤◌, List, [], ◌∷◌, ◌++◌, length, Some, None, codes, decimal, Option}
 use Rattle.std.specs.List.{slice_get, flat_map}
 use Rattle.lts.specs.Meaning.{Meaning}
 use Rattle.theory.specs.Formulas.{Formula, T, E, N, A, D, Holds}

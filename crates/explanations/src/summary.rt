@@ -1,13 +1,13 @@
 // What is told of two procedures whatever the verdict: both procedures, the verdict, the classes.
 ghost use Rattle.std.specs.Prelude.{◌≡◌, ◌+◌, ◌≤◌, ◌++◌, length, Some, string_bytes, OnOk};
-ghost use Rattle.inputs.specs.Words.{word_text};
+ghost use Rattle.inputs.specs.Words.{word_of, word_text};
 ghost use Rattle.explanations.specs.Explanations.{procedure_text, verdict_word, verdict_text, summary_text};
 
 use crate::side::Side;
 use crate::version::Version;
 use comparison::{Report, Verdict};
 use drawings::{Form, push_drawing};
-use inputs::Word;
+use inputs::Given;
 use listings::push_classes;
 use lts::System;
 use std::alloc::AllocError;
@@ -35,16 +35,16 @@ fn push_procedure<S: System>(
     side: Side,
     version: &Version<'_, S>,
 ) -> Result<(), AllocError>
-    ensures { OnOk result (string_bytes out.new ≡ string_bytes out.old ++ procedure_text side (word_text version.now.given.word) (S.meaning version.now.procedure)) }
+    ensures { OnOk result (string_bytes out.new ≡ string_bytes out.old ++ procedure_text side (word_text (word_of version.now.given)) (S.meaning version.now.procedure)) }
 {
-    match version.given.word {
-        Word::Term(text) => {
+    match version.given {
+        Given::Term(text) => {
             let Ok(text) = from_utf8(text) else {
                 unreachable!()
             };
             write!(out, "{side} {text}\n")?;
         }
-        Word::File(path) => write!(out, "{side} @{path}\n")?,
+        Given::File { path, .. } => write!(out, "{side} @{path}\n")?,
     }
     push_drawing(out, Form::Table, &version.procedure)
 }
@@ -67,7 +67,7 @@ pub fn push_summary<S: System>(
     classes: &[u16],
 ) -> Result<(), AllocError>
     requires { (S.meaning left.now.procedure).count + (S.meaning right.now.procedure).count ≤ length classes.now }
-    ensures { OnOk result (string_bytes out.new ≡ string_bytes out.old ++ summary_text (word_text left.now.given.word) (word_text right.now.given.word) (S.meaning left.now.procedure) (S.meaning right.now.procedure) report classes.now) }
+    ensures { OnOk result (string_bytes out.new ≡ string_bytes out.old ++ summary_text (word_text (word_of left.now.given)) (word_text (word_of right.now.given)) (S.meaning left.now.procedure) (S.meaning right.now.procedure) report classes.now) }
 {
     push_procedure(out, Side::Left, left)?;
     push_procedure(out, Side::Right, right)?;

@@ -1,5 +1,6 @@
 // Two versions told.
 ghost use Rattle.std.specs.Prelude.{◌≡◌, ◌+◌, ◌*◌, ◌-◌, ◌≤◌, ◌++◌, IfOk, OnOk, string_bytes};
+ghost use Rattle.inputs.specs.Words.{word_of};
 ghost use Rattle.explanations.specs.Refused.{refused_line, Answered};
 ghost use Rattle.explanations.specs.Contrasts.{Contrasted};
 
@@ -39,7 +40,7 @@ fn compared<const N: usize, S: Source<N>, const LINES: usize, const CLASSES: usi
     requires few { LINES ≤ 1021 }
     requires lines { 4 * (N + N) - 3 ≤ LINES }
     requires classes { CLASSES ≡ N + N }
-    ensures { IfOk result (λ t. Contrasted LINES CLASSES left.now.given.word right.now.given.word (S.meaning left.now.procedure) (S.meaning right.now.procedure) (string_bytes t)) }
+    ensures { IfOk result (λ t. Contrasted LINES CLASSES (word_of left.now.given) (word_of right.now.given) (S.meaning left.now.procedure) (S.meaning right.now.procedure) (string_bytes t)) }
 {
     let p = &left.procedure;
     let q = &right.procedure;
@@ -50,7 +51,7 @@ fn compared<const N: usize, S: Source<N>, const LINES: usize, const CLASSES: usi
     };
     let mut out = String::new(heap);
     push_summary(&mut out, left, right, report, &classes)?;
-    push_outcome(&mut out, left.given.word, p, report.verdict, &lines)?;
+    push_outcome(&mut out, left.given.word(), p, report.verdict, &lines)?;
     Ok(out)
 }
 
@@ -69,7 +70,7 @@ pub fn told<
     requires few { LINES ≤ 1021 }
     requires lines { 4 * (N + N) - 3 ≤ LINES }
     requires classes { CLASSES ≡ N + N }
-    ensures { IfOk result (λ t. Answered F.told (λ v w. Contrasted LINES CLASSES v.given.word w.given.word (S.meaning v.procedure) (S.meaning w.procedure) (string_bytes t)) left.entry right.entry (string_bytes t)) }
+    ensures { IfOk result (λ t. Answered F.told (λ v w. Contrasted LINES CLASSES (word_of v.given) (word_of w.given) (S.meaning v.procedure) (S.meaning w.procedure) (string_bytes t)) left.entry right.entry (string_bytes t)) }
 {
     match (&left, &right) {
         (Ok(left), Ok(right)) => compared::<N, S, LINES, CLASSES>(heap, left, right),

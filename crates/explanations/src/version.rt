@@ -4,9 +4,9 @@ ghost use Rattle.terms.specs.Scan.{first_refusal};
 ghost use Rattle.inputs.specs.Inputs.{Denotes, first_refusal_of};
 ghost use Rattle.inputs.specs.Words.{input_of};
 ghost use Rattle.explanations.specs.Refused.{refusal};
-ghost use Rattle.inputs.specs.declared.word.Word.TheVariants as words;
+ghost use Rattle.inputs.specs.declared.word.Given.TheVariants as givens;
 
-use inputs::{Given, InputFault, Parsed, Word};
+use inputs::{Given, InputFault, Parsed};
 use lts::System;
 use terms::Term;
 use terms::fault::TermFault;
@@ -23,11 +23,10 @@ impl<'a> Version<'a, Term> {
     // The term that a text spells.
     pub fn of_text(text: &'a [u8]) -> Result<Version<'a, Term>, TermFault>
         ensures refuses { refusal result ≡ first_refusal text.entry.now }
-        ensures denotes { IfOk result (λ v. (v.given.word ≡ words.Term text.entry) × Denotes (input_of v.given) (⟦<Term as System>⟧.meaning v.procedure)) }
+        ensures denotes { IfOk result (λ v. (v.given ≡ givens.Term text.entry) × Denotes (input_of v.given) (⟦<Term as System>⟧.meaning v.procedure)) }
     {
         let procedure = Term::read(text)?;
-        let word = Word::Term(text);
-        let given = Given { word, file: &[] };
+        let given = Given::Term(text);
         Ok(Version { given, procedure })
     }
 }

@@ -3,9 +3,7 @@ use Rattle.std.proofs.Common.{lit≤}
 use Rattle.lts.specs.Laws.Most.{wider}
 use Rattle.lts.specs.Meaning.{Lawful}
 use Rattle.tables.specs.Laws.{table_lawful}
-use Rattle.terms.specs.Graph.{graph}
 use Rattle.terms.specs.Laws.Lawful.{term_lawful}
-use Rattle.terms.specs.Terms.{tree_of}
 use Rattle.inputs.specs.Inputs.{meaning_of}
 use Rattle.inputs.specs.declared.parsed.Parsed.{Parsed}
 use Rattle.inputs.specs.declared.parsed.Parsed.TheVariants.{Term, Table}

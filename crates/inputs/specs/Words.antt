@@ -3,6 +3,7 @@ use Rattle.std.specs.Prelude.{◌≡◌, ℕ, Bool, false, List, [], ◌∷◌, 
 use Rattle.inputs.specs.declared.input.Input.{Input}
 use Rattle.inputs.specs.declared.input.Input.TheVariants as inputs
 use Rattle.inputs.specs.declared.word.Given.{Given}
+use Rattle.inputs.specs.declared.word.Given.TheVariants as givens
 use Rattle.inputs.specs.declared.word.Word.{Word}
 use Rattle.inputs.specs.declared.word.Word.TheVariants.{Term, File}
 
@@ -24,4 +25,10 @@ Names text None = (path : List ℕ) × (text ≡ codes "@" ++ path) × (IsUtf8 p
 
 -- what is given: the text of a term, or the bytes of the file
 abbrev pub input_of : Given → Input
-input_of g = elim g.word [ Term text ↦ inputs.Term text | File path ↦ inputs.Table g.file ]
+input_of (givens.Term text) = inputs.Term text
+input_of (givens.File path bytes) = inputs.Table bytes
+
+-- the word that names what is given
+abbrev pub word_of : Given → Word
+word_of (givens.Term text) = Term text
+word_of (givens.File path bytes) = File path

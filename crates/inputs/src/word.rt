@@ -1,6 +1,6 @@
 // A word that names a procedure.
 ghost use Rattle.std.specs.Prelude.{◌≡◌};
-ghost use Rattle.inputs.specs.Words.{Names, input_of};
+ghost use Rattle.inputs.specs.Words.{Names, input_of, word_of};
 
 use crate::input::Input;
 use std::str::from_utf8;
@@ -25,20 +25,31 @@ impl<'a> Word<'a> {
     }
 }
 
-// A word, and the bytes of the file that it names; a term has none.
+// What a word names; of a file also the bytes.
 #[derive(Clone, Copy)]
-pub struct Given<'a> {
-    pub word: Word<'a>,
-    pub file: &'a [u8],
+pub enum Given<'a> {
+    // The text of a term.
+    Term(&'a [u8]),
+    // A table file, by its path.
+    File { path: &'a str, bytes: &'a [u8] },
 }
 
 impl<'a> Given<'a> {
     pub fn input(self) -> Input<'a>
         ensures { result ≡ input_of self.entry }
     {
-        match self.word {
-            Word::Term(text) => Input::Term(text),
-            Word::File(_) => Input::Table(self.file),
+        match self {
+            Given::Term(text) => Input::Term(text),
+            Given::File { bytes, .. } => Input::Table(bytes),
+        }
+    }
+
+    pub fn word(self) -> Word<'a>
+        ensures { result ≡ word_of self.entry }
+    {
+        match self {
+            Given::Term(text) => Word::Term(text),
+            Given::File { path, .. } => Word::File(path),
         }
     }
 }

@@ -1,6 +1,7 @@
 // The files that words name.
 ghost use Rattle.std.specs.Prelude.{◌≡◌, IfSome};
-ghost use Rattle.programs.specs.Files.{Brought};
+ghost use Rattle.inputs.specs.Words.{word_of};
+ghost use Rattle.programs.specs.Files.{Brought, fetched_word, fetched_file, file_of};
 
 use inputs::{Given, Word};
 use std::io::Read;
@@ -9,21 +10,26 @@ use std::{fs, io};
 // One byte more than a table file may have, so that a longer one is seen to be too long.
 const ENOUGH: u64 = 16385;
 
-// A word, and the bytes of the file that it names; a term has none.
+// What a word names, held until it is given.
 #[derive(Drop)]
-pub struct Fetched<'a> {
-    word: Word<'a>,
-    file: Vec<u8>,
+pub enum Fetched<'a> {
+    // The text of a term.
+    Term(&'a [u8]),
+    // A table file, by its path.
+    File { path: &'a str, bytes: Vec<u8> },
 }
 
 impl<'a> Fetched<'a> {
     pub fn given(&self) -> Given<'_>
-        ensures word { result.word ≡ self.now.word }
-        ensures file { result.file.now ≡ self.now.file.items }
+        ensures word { word_of result ≡ fetched_word self.now }
+        ensures file { file_of result ≡ fetched_file self.now }
     {
-        Given {
-            word: self.word,
-            file: self.file.as_slice(),
+        match self {
+            Fetched::Term(text) => Given::Term(text),
+            Fetched::File { path, bytes } => Given::File {
+                path,
+                bytes: bytes.as_slice(),
+            },
         }
     }
 }
@@ -39,10 +45,11 @@ fn read_file(rt: &HostRuntime, path: &str) -> io::Result<Vec<u8>> {
 pub fn fetch<'a>(rt: &HostRuntime, text: &'a [u8]) -> Option<Fetched<'a>>
     ensures { IfSome result (Brought text.now) }
 {
-    let word = Word::new(text)?;
-    let file = match word {
-        Word::Term(_) => Vec::new(rt.alloc()),
-        Word::File(path) => read_file(rt, path).ok()?,
-    };
-    Some(Fetched { word, file })
+    match Word::new(text)? {
+        Word::Term(text) => Some(Fetched::Term(text)),
+        Word::File(path) => {
+            let bytes = read_file(rt, path).ok()?;
+            Some(Fetched::File { path, bytes })
+        }
+    }
 }
