@@ -7,7 +7,7 @@ use refusals::{Fault, Layer, Refusal};
 use shelves::ShelfFault;
 use terms::fault::TermFault;
 
-#[derive(Clone, Copy)]
+#[derive(Clone, Copy, PartialEq, Eq, Debug)]
 pub enum ConsoleFault {
     // The line is not of the form: the first byte that doesn't fit, or the line's length.
     Form(usize),

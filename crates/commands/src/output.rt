@@ -3,7 +3,7 @@ ghost use Rattle.std.specs.Prelude.{◌≡◌, ◌≤◌, length};
 
 mod writing;
 
-// What is written past 32 bytes is cut off.
+// What is written past 32 bytes is cut off. An array with a count: the core allocates nothing.
 #[derive(Clone, Copy)]
 pub struct Output {
     bytes: [u8; 32],

@@ -20,7 +20,7 @@ pub struct Layout {
     pub states: usize,
     pub ends: [bool; 256],
     pub runs: [Run; 256],
-    // Action and target of each step.
+    // Action and target of each step, in an array with their number: the core allocates nothing.
     pub steps: [(u8, u8); 2048],
     pub used: usize,
 }

@@ -17,7 +17,7 @@ pub struct Chain {
 // Each split, with the chain of its class.
 #[derive(Drop)]
 pub struct Links {
-    // The splits so far, in their order.
+    // The splits so far, in their order, in an array with their number: the core allocates nothing.
     pub splits: [Split; 256],
     pub made: usize,
     // The chain of each class that was split.

@@ -1,4 +1,4 @@
-// The classes of one round.
+// The classes of one round. Arrays with a count: the core allocates nothing.
 
 #[derive(Clone, Copy)]
 pub struct Partition {

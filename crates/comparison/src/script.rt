@@ -5,6 +5,7 @@ use formulas::Line;
 
 mod calls;
 
+// An array with a count: the core allocates nothing.
 #[derive(Drop)]
 pub struct Script {
     pub lines: [Line; 1024],

@@ -35,7 +35,7 @@ impl System for Parsed {
 
     ghost lawful = { λ x. wider (lit≤ tt) (parsed_lawful x) };
 
-    // Each call is passed on by a match: a helper over both kinds would take a closure over any `Source`, and there is none.
+    // Each call is passed on by a match: no function may hand out a `dyn System` of either kind, and no closure is over any system.
     fn states(&self) -> usize {
         match self {
             Parsed::Term(term) => term.states(),

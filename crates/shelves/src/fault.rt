@@ -6,7 +6,7 @@ ghost use Rattle.shelves.specs.declared.fault.ShelfFault.TheVariants.{Room};
 use comparison::{CompareFault, Report};
 use refusals::{Fault, Layer, Refusal};
 
-#[derive(Clone, Copy)]
+#[derive(Clone, Copy, PartialEq, Eq, Debug)]
 pub enum ShelfFault {
     // The slot is above 7.
     Slot,

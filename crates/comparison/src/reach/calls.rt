@@ -45,7 +45,7 @@ impl Reach {
         new
     }
 
-    // Holds just the pairs that state t reaches, and answers their number.
+    // Holds just the pairs that state t reaches, and answers their number. No `filter` and `count`: each pair that is put changes the table.
     pub fn mark<S: System>(&mut self, round: &Round<'_, S>, t: usize) -> usize
         ensures reached { Reached (numbers round.now.before.now.class) ((S.meaning round.now.system.now).steps t) self.new }
         ensures weighed { result ≡ weight (numbers round.now.before.now.class) ((S.meaning round.now.system.now).steps t) }
@@ -60,7 +60,8 @@ impl Reach {
         pairs
     }
 
-    // The first pair that state t reaches and that is not held.
+    // The first pair that state t reaches and that is not held. No `find`: what `has` asks of a pair is known of the steps of a state, and
+    // of no closure's argument.
     pub fn missing<S: System>(&self, round: &Round<'_, S>, t: usize) -> Option<(u8, u16)>
         ensures { Missing (numbers round.now.before.now.class) ((S.meaning round.now.system.now).steps t) self.now result }
     {

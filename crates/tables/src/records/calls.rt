@@ -19,7 +19,7 @@ impl<'a> Records<'a> {
     }
 
     // The next record, or nothing at the end of the file.
-    // No `Iterator`: after a refusal the reader stays where it is and refuses again, so a `for` over it would have no end.
+    // No `Iterator`: after a refusal the reader stays where it is and refuses again, so nothing bounds how many answers come.
     pub fn next(&mut self) -> Result<Option<Record<'a>>, RecordFault>
         ensures { Answered self.old result self.new }
     {
