@@ -20,7 +20,7 @@ offset_bounds-self-self g c =
 pub bounds-self-self : goal.bounds-self-self
 bounds-self-self g c =
     let h = placed c.args.self.now.of.now c.args.self.now.sound c.args.s c.args.k (omega (arith, c.step_count.ensures)) in
-    h.3
+    omega arith
 
 pub returns : goal.returns
 returns g c =
