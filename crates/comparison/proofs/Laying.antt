@@ -5,11 +5,12 @@ use Rattle.std.proofs.lemmas.List.FromFn.{map-range_with_len_more}
 use Rattle.std.proofs.lemmas.List.{get_or-set_same, get_or-set_other}
 use Rattle.std.proofs.lemmas.Bool.{not-false}
 use Rattle.lts.specs.Meaning.{Meaning, In}
+use Rattle.lts.specs.declared.laid.Run.{Run}
 use Rattle.lts.specs.Laws.Member.{in_left, in_right, in_either}
 use Rattle.comparison.specs.Reach.{hits, holds, Put}
-use Rattle.comparison.specs.Layouts.{run_at, from, many, run, pushed, SameListed, LaidOut, Laying}
+use Rattle.lts.specs.Layout.{run_at, from, many, run}
+use Rattle.comparison.specs.Layouts.{pushed, SameListed, LaidOut, Laying}
 use Rattle.comparison.specs.declared.layout.Layout.{Layout}
-use Rattle.comparison.specs.declared.layout.Run.{Run}
 use Rattle.comparison.specs.declared.reach.Reach.{Reach}
 use Rattle.comparison.proofs.Pairs.{hits_in, take_listed}
 use Rattle.comparison.proofs.Tables.{reached_more}
@@ -51,12 +52,12 @@ pushed_below m s p x h room =
     record {
       ends_size = h.ends_size;
       runs_size = h.runs_size;
-      steps_size = length-set p.steps p.used x ∙ h.steps_size;
+      steps_size = length-set p.laid.steps p.used x ∙ h.steps_size;
       states = h.states;
       room = omega arith;
       inside = λ t l. let i = h.inside t l in omega arith;
       ends = h.ends;
-      steps = λ t l. subst (SameListed (m.steps t)) (sym (run_kept p.steps p.used x (from p t) (many p t) (h.inside t l))) (h.steps t l);
+      steps = λ t l. subst (SameListed (m.steps t)) (sym (run_kept p.laid.steps p.used x (from p.laid t) (many p.laid t) (h.inside t l))) (h.steps t l);
     }
 
 module _ (m : Meaning) (s i k a t : ℕ) (before after : Reach) (p : Layout) (h : Laying m s i k before p) (at : Some (a, t) ≡ slice_get (m.steps s) k) (act : a ≤ 63) (low : t < 256) where
@@ -72,7 +73,7 @@ module _ (m : Meaning) (s i k a t : ℕ) (before after : Reach) (p : Layout) (h 
         below = pushed_below m s p (a, t) h.below room;
         begun = omega arith;
         seen = reached_more (λ (u : ℕ). u) xs k a t before after true at low put h.seen;
-        steps = subst (λ (ys : List (ℕ × ℕ)). SameListed ys (run (pushed p (a, t)) i (p.used + 1 - i))) (sym (take_listed xs k (a, t) at)) (subst (SameListed (take k xs ++ (a, t) ∷ [])) (sym (run_more p.steps p.used (a, t) i begun (omega arith))) (same_more (take k xs) (run p i (p.used - i)) (a, t) h.steps));
+        steps = subst (λ (ys : List (ℕ × ℕ)). SameListed ys (run (pushed p (a, t)).laid i (p.used + 1 - i))) (sym (take_listed xs k (a, t) at)) (subst (SameListed (take k xs ++ (a, t) ∷ [])) (sym (run_more p.laid.steps p.used (a, t) i begun (omega arith))) (same_more (take k xs) (run p.laid i (p.used - i)) (a, t) h.steps));
       }
 
   -- one that was seen is laid already
@@ -82,7 +83,7 @@ module _ (m : Meaning) (s i k a t : ℕ) (before after : Reach) (p : Layout) (h 
         below = h.below;
         begun = h.begun;
         seen = reached_more (λ (u : ℕ). u) xs k a t before after false at low put h.seen;
-        steps = subst (λ (ys : List (ℕ × ℕ)). SameListed ys (run p i (p.used - i))) (sym (take_listed xs k (a, t) at)) (same_again (take k xs) (run p i (p.used - i)) a t listed h.steps);
+        steps = subst (λ (ys : List (ℕ × ℕ)). SameListed ys (run p.laid i (p.used - i))) (sym (take_listed xs k (a, t) at)) (same_again (take k xs) (run p.laid i (p.used - i)) a t listed h.steps);
       }
     where
       listed : In (a, t) (take k xs)
@@ -94,27 +95,28 @@ module _ (m : Meaning) (s i k a t : ℕ) (before after : Reach) (p : Layout) (h 
 -- All steps of state s.
 
 abbrev pub closed : Layout → ℕ → Bool → Run → Layout
-closed p s end r = record { states = p.states; ends = set p.ends s end; runs = set p.runs s r; steps = p.steps; used = p.used }
+closed p s end r =
+    record { laid = record { states = p.laid.states; ends = set p.laid.ends s end; runs = set p.laid.runs s r; steps = p.laid.steps }; used = p.used }
 
-module _ (m : Meaning) (s i : ℕ) (p : Layout) (end : Bool) (few : s < 256) (begun : i ≤ p.used) (is : end ≡ m.ends s) (h : LaidOut m s p) (last : SameListed (m.steps s) (run p i (p.used - i))) where
+module _ (m : Meaning) (s i : ℕ) (p : Layout) (end : Bool) (few : s < 256) (begun : i ≤ p.used) (is : end ≡ m.ends s) (h : LaidOut m s p) (last : SameListed (m.steps s) (run p.laid i (p.used - i))) where
   abbrev here : Run
   here = record { from = i; count = p.used - i }
 
-  run_kept_at : (t : ℕ) → t < s → run_at p t ≡ run_at (closed p s end here) t
-  run_kept_at t l = sym (get_or-set_other p.runs s t here (record { from = 0; count = 0 }) (let ne : t ≢ s = omega arith in ne))
+  run_kept_at : (t : ℕ) → t < s → run_at p.laid t ≡ run_at (closed p s end here).laid t
+  run_kept_at t l = sym (get_or-set_other p.laid.runs s t here (record { from = 0; count = 0 }) (let ne : t ≢ s = omega arith in ne))
 
-  run_here : here ≡ run_at (closed p s end here) s
-  run_here = sym (get_or-set_same p.runs s here (record { from = 0; count = 0 }) (let e = h.runs_size in omega arith))
+  run_here : here ≡ run_at (closed p s end here).laid s
+  run_here = sym (get_or-set_same p.laid.runs s here (record { from = 0; count = 0 }) (let e = h.runs_size in omega arith))
 
   pub close_state : LaidOut m (s + 1) (closed p s end here)
   close_state =
       record {
-        ends_size = length-set p.ends s end ∙ h.ends_size;
-        runs_size = length-set p.runs s here ∙ h.runs_size;
+        ends_size = length-set p.laid.ends s end ∙ h.ends_size;
+        runs_size = length-set p.laid.runs s here ∙ h.runs_size;
         steps_size = h.steps_size;
         states = h.states;
         room = h.room;
         inside = below_more _ s (λ t l. subst (λ (r : Run). r.from + r.count ≤ p.used) (run_kept_at t l) (h.inside t l)) (subst (λ (r : Run). r.from + r.count ≤ p.used) run_here (omega arith));
-        ends = below_more _ s (λ t l. get_or-set_other p.ends s t end false (let ne : t ≢ s = omega arith in ne) ∙ h.ends t l) (get_or-set_same p.ends s end false (let e = h.ends_size in omega arith) ∙ is);
-        steps = below_more _ s (λ t l. subst (λ (r : Run). SameListed (m.steps t) (run p r.from r.count)) (run_kept_at t l) (h.steps t l)) (subst (λ (r : Run). SameListed (m.steps s) (run p r.from r.count)) run_here last);
+        ends = below_more _ s (λ t l. get_or-set_other p.laid.ends s t end false (let ne : t ≢ s = omega arith in ne) ∙ h.ends t l) (get_or-set_same p.laid.ends s end false (let e = h.ends_size in omega arith) ∙ is);
+        steps = below_more _ s (λ t l. subst (λ (r : Run). SameListed (m.steps t) (run p.laid r.from r.count)) (run_kept_at t l) (h.steps t l)) (subst (λ (r : Run). SameListed (m.steps s) (run p.laid r.from r.count)) run_here last);
       }

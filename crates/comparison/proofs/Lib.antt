@@ -15,6 +15,5 @@ pub mod Ending
 pub mod Reporting
 pub mod Bounds
 pub mod Laying
-pub mod Reading
 pub mod Transfer
 pub mod Walking

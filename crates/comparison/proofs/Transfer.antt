@@ -1,5 +1,5 @@
 -- Two procedures with the same steps compare alike.
-use Rattle.std.proofs.Common.{◌≡◌, ℕ, zero, suc, ◌+◌, ◌<◌, ◌≤◌, true, ltb, ◌↔◌, List, Some, None, Option, sym, ap, ◌∙◌, inl, inr, ⊎_elim, arith}
+use Rattle.std.proofs.Common.{◌≡◌, ℕ, zero, suc, ◌+◌, ◌<◌, ◌≤◌, true, ltb, ◌↔◌, List, Some, None, Option, sym, ap, ◌∙◌, inl, inr, ⊎_elim, lit≤, arith}
 use Rattle.std.specs.List.{range_with_len}
 use Rattle.std.proofs.lemmas.Bool.{le-ltb, lt-ltb, cases_lt, cases_eq}
 use Rattle.lts.specs.Meaning.{Meaning, Lawful, In}
@@ -9,7 +9,8 @@ use Rattle.theory.specs.Formulas.{Formula, T, E, N, A, D, Holds}
 use Rattle.formulas.specs.Lines.{formula}
 use Rattle.formulas.specs.declared.line.Line.{Line}
 use Rattle.comparison.specs.Found.{Found}
-use Rattle.comparison.specs.Layouts.{step_at, from, many, laid, SameListed, SameSteps, LaidOut}
+use Rattle.lts.specs.Layout.{step_at, from, many, stored, Sound}
+use Rattle.comparison.specs.Layouts.{SameListed, SameSteps, LaidOut}
 use Rattle.comparison.specs.Outcomes.{Compares}
 use Rattle.comparison.specs.declared.layout.Layout.{Layout}
 use Rattle.comparison.specs.declared.outcome.Outcome.{Outcome}
@@ -84,43 +85,46 @@ counting_in k a zero low high = let b : ⊥ = omega arith in absurd b
 counting_in k a (suc n) low high = ⊎_elim (λ e. inl e) (λ ne. inr (counting_in k (a + 1) n (omega arith) (omega arith))) (cases_eq k a)
 
 -- A layout of all states has the same steps, and can be read as a system.
-module _ {most : ℕ} (m : Meaning) (law : Lawful most m) (p : Layout) (h : LaidOut m m.count p) where
-  same_ends : (s : ℕ) → (laid p).ends s ≡ m.ends s
+module _ (m : Meaning) (law : Lawful 256 m) (p : Layout) (h : LaidOut m m.count p) where
+  same_ends : (s : ℕ) → (stored p.laid).ends s ≡ m.ends s
   same_ends s = ⊎_elim inside outside (cases_lt s m.count)
     where
-      inside : s < m.count → (laid p).ends s ≡ m.ends s
+      inside : s < m.count → (stored p.laid).ends s ≡ m.ends s
       inside l = rw (h.states, lt-ltb s m.count l) (h.ends s l)
 
-      outside : m.count ≤ s → (laid p).ends s ≡ m.ends s
+      outside : m.count ≤ s → (stored p.laid).ends s ≡ m.ends s
       outside l = rw (h.states, le-ltb s m.count l) (sym (law.no_ends s l))
 
-  same_listed : (s : ℕ) → SameListed ((laid p).steps s) (m.steps s)
+  same_listed : (s : ℕ) → SameListed ((stored p.laid).steps s) (m.steps s)
   same_listed s = ⊎_elim inside outside (cases_lt s m.count)
     where
-      inside : s < m.count → SameListed ((laid p).steps s) (m.steps s)
+      inside : s < m.count → SameListed ((stored p.laid).steps s) (m.steps s)
       inside l = rw (h.states, lt-ltb s m.count l) (record { to = (h.steps s l).back; back = (h.steps s l).to })
 
-      outside : m.count ≤ s → SameListed ((laid p).steps s) (m.steps s)
+      outside : m.count ≤ s → SameListed ((stored p.laid).steps s) (m.steps s)
       outside l = rw (h.states, le-ltb s m.count l, law.no_steps s l) (record { to = λ a t i. i; back = λ a t i. i })
 
-  pub laid_same : SameSteps (laid p) m
+  pub laid_same : SameSteps (stored p.laid) m
   laid_same = record { counts = h.states; ends = same_ends; steps = same_listed }
 
-  pub laid_room : (s : ℕ) → s < p.states → from p s + many p s ≤ 2048
-  laid_room s l = let e = h.states in let r = h.room in let i = h.inside s (omega arith) in omega arith
-
   -- the step at a place of a state is listed
-  place_listed : (s k : ℕ) → s < p.states → k < many p s → In (step_at p (from p s + k)) (m.steps s)
+  place_listed : (s k : ℕ) → s < p.laid.states → k < many p.laid s → In (step_at p.laid (from p.laid s + k)) (m.steps s)
   place_listed s k l i =
       let e = h.states in
-      let x = step_at p (from p s + k) in
-      (h.steps s (omega arith)).back x.0 x.1 (in_map (step_at p) (from p s + k) (range_with_len (from p s) (many p s)) (counting_in (from p s + k) (from p s) (many p s) (omega arith) (omega arith)))
+      let x = step_at p.laid (from p.laid s + k) in
+      (h.steps s (omega arith)).back x.0 x.1 (in_map (step_at p.laid) (from p.laid s + k) (range_with_len (from p.laid s) (many p.laid s)) (counting_in (from p.laid s + k) (from p.laid s) (many p.laid s) (omega arith) (omega arith)))
 
-  pub laid_acts : (s k : ℕ) → s < p.states → k < many p s → (step_at p (from p s + k)).0 ≤ 63
-  laid_acts s k l i = law.acts s (step_at p (from p s + k)).0 (step_at p (from p s + k)).1 (place_listed s k l i)
-
-  pub laid_aims : (s k : ℕ) → s < p.states → k < many p s → (step_at p (from p s + k)).1 < p.states
-  laid_aims s k l i =
+  pub laid_sound : Sound p.laid
+  laid_sound =
       let e = h.states in
-      let r = law.aims s (step_at p (from p s + k)).0 (step_at p (from p s + k)).1 (place_listed s k l i) in
-      omega arith
+      let some = law.some in
+      let few = law.few in
+      record {
+        some = omega arith;
+        few = omega arith;
+        states_room = lit≤ tt;
+        steps_room = lit≤ tt;
+        inside = λ s l. let r = h.room in let i = h.inside s (omega arith) in omega arith;
+        acts = λ s k l i. law.acts s _ _ (place_listed s k l i);
+        aims = λ s k l i. let r = law.aims s _ _ (place_listed s k l i) in omega arith;
+      }

@@ -1,6 +1,5 @@
 pub mod Reach
 pub mod Layouts
-pub mod Laws
 pub mod Marks
 pub mod Landing
 pub mod Links

@@ -3,25 +3,16 @@ ghost use Rattle.std.specs.Prelude.{◌≡◌, ◌+◌, ◌<◌, ◌≤◌, leng
 ghost use Rattle.comparison.specs.Layouts.{pushed, LaidOut};
 
 use crate::reach::Reach;
-use lts::{Steps, System};
+use lts::{Laid, Run, Steps, System};
 
 const PLACES: usize = 2048;
 
-// Where the steps of a state begin, and how many they are.
-#[derive(Clone, Copy)]
-pub struct Run {
-    pub from: u16,
-    pub count: u16,
-}
-
-// The states with their end marks, and the steps of all of them one behind the other.
+// What is laid out so far, each state's steps behind those of the states below it, in an array with their number: the core allocates
+// nothing.
 #[derive(Drop)]
 pub struct Layout {
-    pub states: usize,
-    pub ends: [bool; 256],
-    pub runs: [Run; 256],
-    // Action and target of each step, in an array with their number: the core allocates nothing.
-    pub steps: [(u8, u8); 2048],
+    pub laid: Laid<256, 2048>,
+    // How many places hold a step.
     pub used: usize,
 }
 
@@ -31,17 +22,19 @@ impl Layout {
         ensures { LaidOut (S.meaning system.now) 0 result }
     {
         Layout {
-            states: system.states(),
-            ends: [false; 256],
-            runs: [Run { from: 0, count: 0 }; 256],
-            steps: [(0, 0); 2048],
+            laid: Laid {
+                states: system.states() as u16,
+                ends: [false; 256],
+                runs: [Run { from: 0, count: 0 }; 256],
+                steps: [(0, 0); 2048],
+            },
             used: 0,
         }
     }
 
     // One step more, where there is room.
     fn push(&mut self, action: u8, target: u8) -> Option<()>
-        requires size { length self.old.steps ≡ 2048 }
+        requires size { length self.old.laid.steps ≡ 2048 }
         requires room { self.old.used ≤ 2048 }
         ensures room { IfSome result (λ _. self.old.used < 2048) }
         ensures pushed { IfSome result (λ _. self.new ≡ pushed self.old (action, target)) }
@@ -50,7 +43,7 @@ impl Layout {
         if self.used == PLACES {
             return None;
         }
-        self.steps[self.used] = (action, target);
+        self.laid.steps[self.used] = (action, target);
         self.used += 1;
         Some(())
     }
@@ -68,8 +61,8 @@ impl Layout {
                 self.push(action, target)?;
             }
         }
-        self.ends[s] = system.is_end(s);
-        self.runs[s] = Run {
+        self.laid.ends[s] = system.is_end(s);
+        self.laid.runs[s] = Run {
             from: from as u16,
             count: (self.used - from) as u16,
         };

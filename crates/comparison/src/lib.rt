@@ -9,7 +9,6 @@ mod contrast;
 mod draft;
 mod ends;
 pub mod fault;
-mod flat;
 mod layout;
 mod links;
 mod outcome;

@@ -4,14 +4,13 @@ ghost use Rattle.comparison.specs.Marks.{written};
 ghost use Rattle.comparison.specs.Outcomes.{Compares};
 
 use crate::ends::by_ends;
-use crate::flat::Flat;
 use crate::layout::Layout;
 use crate::partition::Partition;
 use crate::reach::Reach;
 use crate::round::Round;
 use crate::script::Script;
 use crate::starts::{Apart, watch};
-use lts::System;
+use lts::{Stored, System};
 
 #[derive(Clone, Copy)]
 pub struct Outcome {
@@ -67,7 +66,7 @@ pub fn compared<S: System>(system: &S, right: usize, most: usize, script: &mut S
     let mut here = Reach::new();
     match Layout::of(system, &mut here) {
         Some(layout) => {
-            let flat = Flat { of: &layout };
+            let flat = Stored { of: &layout.laid };
             refine_all(&flat, right, most, &mut here, script)
         }
         None => refine_all(system, right, most, &mut here, script),

@@ -1,14 +1,9 @@
 -- How many steps are listed before a state.
-use Rattle.std.proofs.Common.{◌≡◌, ℕ, zero, suc, ◌+◌, ◌-◌, ◌*◌, ◌<◌, ◌≤◌, length, ⊎_elim, add-zero, add-one, arith}
+use Rattle.std.proofs.Common.{◌≡◌, ℕ, zero, suc, ◌+◌, ◌-◌, ◌*◌, ◌<◌, ◌≤◌, length, add-zero, add-one, arith}
 use Rattle.std.proofs.lemmas.List.FromFn.{sum_by-map-range_with_len_more}
 use Rattle.std.proofs.lemmas.List.{map-id}
-use Rattle.std.proofs.lemmas.Bool.{cases_lt}
 use Rattle.lts.specs.Meaning.{Meaning}
 use Rattle.lts.specs.Copying.{before, total}
-
--- the state below s that place k belongs to
-abbrev pub Place : Meaning → ℕ → ℕ → Type 0
-Place m s k = (t i : ℕ) × (t < s) × (i < length (m.steps t)) × (k ≡ before m t + i)
 
 module _ (m : Meaning) where
   pub before_more : (s : ℕ) → before m (s + 1) ≡ before m s + length (m.steps s)
@@ -46,16 +41,3 @@ module _ (m : Meaning) where
       let l = before_rises (s + 1) m.count (omega arith) in
       let e = before_more s in
       omega arith
-
-  pub place_state : (s k : ℕ) → k < before m s → Place m s k
-  place_state zero k h = let b : ⊥ = omega arith in absurd b
-  place_state (suc s) k h = ⊎_elim (λ l. earlier (place_state s k l)) here (cases_lt k (before m s))
-    where
-      earlier : Place m s k → Place m (suc s) k
-      earlier r = (r.0, r.1, omega arith, r.3, r.4)
-
-      here : before m s ≤ k → Place m (suc s) k
-      here l =
-          let e = before_more s in
-          let h' : k < before m (s + 1) = rw add-one h in
-          (s, k - before m s, omega arith, omega arith, omega arith)

@@ -2,8 +2,7 @@
 use Rattle.std.specs.Prelude.{◌≡◌, ℕ, ◌<◌, ◌≤◌, length, Some, None, sum_by, Option}
 use Rattle.std.specs.List.{range_with_len}
 use Rattle.lts.specs.Meaning.{Meaning}
-use Rattle.lts.specs.Layout.{stored, Sound}
-use Rattle.lts.specs.declared.procedure.Procedure.{Procedure}
+use Rattle.lts.specs.Layout.{Procedure, stored, Sound}
 
 -- the number of steps listed out of the states below s
 abbrev pub before : Meaning → ℕ → ℕ

@@ -1,9 +1,9 @@
 // The copy of a source that a slot keeps.
-ghost use Rattle.std.specs.Prelude.{◌≡◌, ◌+◌, ◌<◌, ◌≤◌};
-ghost use Rattle.lts.specs.Copying.{total, Copied};
+ghost use Rattle.std.specs.Prelude.{◌≡◌, ◌+◌, ◌<◌, ◌≤◌, length};
+ghost use Rattle.lts.specs.Copying.{before, total, Copied};
 ghost use Rattle.lts.specs.Filling.{Filled};
 
-use crate::procedure::Procedure;
+use crate::laid::{Procedure, Run};
 use crate::source::Source;
 use crate::steps::Steps;
 use crate::system::System;
@@ -28,26 +28,36 @@ fn bare<const N: usize, S: Source<N>>(source: &S) -> Procedure
         *end = source.is_end(s);
     }
     Procedure {
-        states: source.states() as u8,
+        states: source.states() as u16,
         ends,
-        first: [0; 129],
+        runs: [Run { from: 0, count: 0 }; 128],
         steps: [(0, 0); 512],
     }
 }
 
-// Puts the steps of state s behind those of the states below it.
-fn copy_steps<const N: usize, S: Source<N>>(source: &S, s: usize, to: &mut Procedure)
+// Puts the steps of state s behind those of the states below it, and answers where the next state's begin.
+fn copy_steps<const N: usize, S: Source<N>>(
+    source: &S,
+    s: usize,
+    from: usize,
+    to: &mut Procedure,
+) -> usize
     requires state { s < (S.meaning source.now).count }
-    requires room { total (S.meaning source.now) ≤ 512 }
+    requires room { from + length ((S.meaning source.now).steps s) ≤ 512 }
+    requires behind { from ≡ before (S.meaning source.now) s }
     requires filled { Filled (S.meaning source.now) s 0 to.old }
-    ensures { Filled (S.meaning source.now) (s + 1) 0 to.new }
+    ensures behind { result ≡ before (S.meaning source.now) (s + 1) }
+    ensures filled { Filled (S.meaning source.now) (s + 1) 0 to.new }
 {
-    let from = to.first[s] as usize;
     let count = source.step_count(s);
     for (k, step) in Steps::of(source, s).enumerate() {
         to.steps[from + k] = step;
     }
-    to.first[s + 1] = (from + count) as u16;
+    to.runs[s] = Run {
+        from: from as u16,
+        count: count as u16,
+    };
+    from + count
 }
 
 // A procedure with the meaning of the source, unless it lists more than 512 steps.
@@ -58,8 +68,9 @@ pub fn copied<const N: usize, S: Source<N>>(source: &S) -> Option<Procedure>
         return None;
     }
     let mut copy = bare(source);
+    let mut used = 0;
     for s in 0..source.states() {
-        copy_steps(source, s, &mut copy);
+        used = copy_steps(source, s, used, &mut copy);
     }
     Some(copy)
 }

@@ -1,7 +1,7 @@
 -- Rows that a clearance is for.
 use Rattle.std.proofs.Common.{◌≡◌, ◌⊎◌, ℕ, List, length, get_or, set, Some, None, Ok, Err, Option, Result, sym, refl, ap, ◌∙◌, subst, ⊎_elim}
 use mathlib.Core.Logic.{∥∥₁_elim}
-use Rattle.lts.specs.declared.procedure.Procedure.{Procedure}
+use Rattle.lts.specs.Layout.{Procedure}
 use Rattle.accounts.specs.Account.{with_slot}
 use Rattle.accounts.specs.Calls.{accepted, refused, Does, refuses, releases, withdraws}
 use Rattle.shelves.specs.Faults.{number_of}

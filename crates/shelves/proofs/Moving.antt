@@ -3,7 +3,7 @@ use Rattle.std.proofs.Common.{◌≡◌, ℕ, ◌<◌, true, cond, eqb, List, �
 use mathlib.Core.Logic.{∥∥₁_map}
 use Rattle.std.proofs.lemmas.List.{get_or-set_same, get_or-set_other}
 use Rattle.std.proofs.lemmas.Bool.{cases_eq, eq-eqb, ne_eqb}
-use Rattle.lts.specs.declared.procedure.Procedure.{Procedure}
+use Rattle.lts.specs.Layout.{Procedure}
 use Rattle.accounts.specs.Account.{Account, Filled, with_slot, with_claim}
 use Rattle.accounts.specs.Calls.{Call, Answer, Event, LawfulCall, Does, Run, more}
 use Rattle.accounts.specs.Law.{Law}

@@ -3,9 +3,8 @@ use Rattle.std.proofs.Common.{◌≡◌, ℕ, ◌<◌, ◌≤◌, false, List, [
 use Rattle.std.proofs.lemmas.Bool.{le-ltb, cases_lt}
 use Rattle.std.proofs.lemmas.List.{get_or-replicate, get_or_past}
 use Rattle.lts.specs.Copying.{total}
-use Rattle.lts.specs.Layout.{Sound, stored}
+use Rattle.lts.specs.Layout.{Procedure, Sound, stored}
 use Rattle.lts.specs.Meaning.{Meaning}
-use Rattle.lts.specs.declared.procedure.Procedure.{Procedure}
 use Rattle.accounts.specs.Account.{new, fresh}
 use Rattle.accounts.specs.Calls.{Run, start}
 use Rattle.theory.proofs.Relations.{related_reflexive}

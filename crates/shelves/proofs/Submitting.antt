@@ -3,9 +3,8 @@ use Rattle.std.proofs.Common.{◌≡◌, ℕ, ◌+◌, ◌-◌, ◌*◌, ◌<◌
 use Rattle.std.proofs.lemmas.Bool.{lt-ltb, le-ltb, or_left, or_right, or_from, cases_lt}
 use Rattle.lts.specs.Copying.{total}
 use Rattle.lts.specs.Laws.Stored.{stored_lawful}
-use Rattle.lts.specs.Layout.{stored}
+use Rattle.lts.specs.Layout.{Procedure, stored}
 use Rattle.lts.specs.Meaning.{Meaning, Lawful}
-use Rattle.lts.specs.declared.procedure.Procedure.{Procedure}
 use Rattle.formulas.specs.declared.line.Line.{Line}
 use Rattle.comparison.specs.Compared.{Short, Reported, Distinguished, Judged}
 use Rattle.comparison.specs.declared.report.Report.{Report}

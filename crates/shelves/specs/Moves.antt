@@ -1,7 +1,6 @@
 -- What a call on a shelf promises.
 use Rattle.std.specs.Prelude.{◌≡◌, ◌⊎◌, ℕ, ◌+◌, ◌<◌, ◌≤◌, Bool, true, false, List, ◌∷◌, take, is_some, Some, None, Ok, Err, Option, Result, slice_index_or}
 use Rattle.lts.specs.Meaning.{Meaning}
-use Rattle.lts.specs.declared.procedure.Procedure.{Procedure}
 use Rattle.accounts.specs.Account.{Account, Filled, with_slot, fresh}
 use Rattle.accounts.specs.Calls.{Call, file, submit, claim, release, withdraw, clears, Answer, accepted, called_same, called_different, cleared, refused, refusal, Event, Does, Run}
 use Rattle.accounts.specs.Law.{Law}
@@ -17,7 +16,7 @@ use Rattle.comparison.specs.declared.report.Verdict.TheVariants.{Same, Different
 use Rattle.formulas.specs.Lines.{formula}
 use Rattle.formulas.specs.declared.line.Line.{Line}
 use Rattle.lts.specs.Copying.{total}
-use Rattle.lts.specs.Layout.{Sound, stored}
+use Rattle.lts.specs.Layout.{Procedure, Sound, stored}
 use Rattle.theory.specs.Formulas.{Formula, T}
 use Rattle.shelves.specs.declared.row.Row.{Row}
 use Rattle.shelves.specs.declared.shelf.Shelf.{Shelf}

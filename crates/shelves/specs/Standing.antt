@@ -1,8 +1,7 @@
 -- What a shelf stands for.
 use Rattle.std.specs.Prelude.{◌≡◌, ℕ, List, Some, None, Option, slice_index_or}
-use Rattle.lts.specs.Layout.{Sound, stored}
+use Rattle.lts.specs.Layout.{Procedure, Sound, stored}
 use Rattle.lts.specs.Meaning.{Meaning}
-use Rattle.lts.specs.declared.procedure.Procedure.{Procedure}
 use Rattle.accounts.specs.Account.{Alike, Filled, Account}
 use Rattle.accounts.specs.Calls.{Event, Run}
 use Rattle.shelves.specs.declared.row.Row.{Row}

@@ -1,8 +1,7 @@
 -- Reading a table file: what holds after each record, and at the end.
 use Rattle.std.proofs.Common.{◌≡◌, ℕ, ◌<◌, ◌≤◌, false, ◌&&◌, ltb, List, [], ◌∷◌, ◌++◌, length, get_or, IfOk, Some, None, Ok, Err, Option, Result, sym, ap, ◌∙◌, subst, ⊎_elim, append_assoc, append-nil, arith}
 use Rattle.std.proofs.lemmas.Bool.{lt-ltb, le-ltb, cases_lt}
-use Rattle.lts.specs.Layout.{stored}
-use Rattle.lts.specs.declared.procedure.Procedure.{Procedure}
+use Rattle.lts.specs.Layout.{Procedure, stored}
 use Rattle.lts.specs.Laws.Same.{same_meaning}
 use Rattle.tables.specs.Records.{Rec, whole, damaged, entry_at, behind, entries, wholes, records_of}
 use Rattle.tables.specs.Drawing.{table_meaning, ended, out_of}

@@ -36,7 +36,7 @@ module _ {states : ℕ} {ends : List Bool} {counts : List ℕ} {steps : List Ste
       counted =
           let f = inside.from in
           let n = held.few in
-          let from : x.from < 129 = omega arith in
+          let from : x.from < 128 = omega arith in
           rw steps_more (numbers_set held.counted x.from (get_or counts x.from 0 + 1) from (ap (λ c. c + 1) (held.counted.each x.from from) ∙ sym (out_here (take used steps) x)) (λ s ne. sym (out_other (take used steps) x s ne)))
 
       pub held_step : Held states ends (set counts x.from (get_or counts x.from 0 + 1)) (set steps used x) (used + 1)

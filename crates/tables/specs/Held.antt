@@ -10,10 +10,10 @@ pub record Inside (n : ℕ) (x : Step) : Type 0 where
   pub action : x.action ≤ 63
   pub to : x.to < n
 
--- a number for each of 128 states, and one behind them
+-- a number for each of 128 states
 pub record Numbers (f : ℕ → ℕ) (ns : List ℕ) : Type 0 where
-  pub size : length ns ≡ 129
-  pub each : (s : ℕ) → s < 129 → slice_index ns s ≡ f s
+  pub size : length ns ≡ 128
+  pub each : (s : ℕ) → s < 128 → slice_index ns s ≡ f s
 
 -- the first steps are used: they lead between the states, and are counted by the state that they leave
 pub record Held (states : ℕ) (ends : List Bool) (counts : List ℕ) (steps : List Step) (used : ℕ) : Type 0 where

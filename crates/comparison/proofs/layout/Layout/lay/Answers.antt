@@ -1,6 +1,7 @@
-use Rattle.std.proofs.Common.{ℕ, List, [], ◌∷◌, ◌+◌, ◌-◌, ◌≤◌, length, length-append, sym, ◌∙◌, subst, arith}
+use Rattle.std.proofs.Common.{ℕ, List, [], ◌∷◌, ◌-◌, length, length-append, sym, ◌∙◌, subst, arith}
 use Rattle.lts.specs.Laws.Member.{nth_last}
-use Rattle.comparison.specs.Layouts.{run, SameListed}
+use Rattle.lts.specs.Layout.{run}
+use Rattle.comparison.specs.Layouts.{SameListed}
 use Rattle.comparison.proofs.Laying.{lay_new, lay_old, close_state}
 use Rattle.comparison.proofs.Pairs.{take_whole}
 use Rattle.comparison.proofs.Walking.{next_is}
@@ -50,5 +51,5 @@ returns g c =
     let inv = c.loop-action.invariant in
     let k = length c.loop-action.yielded in
     let all = nth_last (m.steps c.args.s) k (sym inv.left ∙ c.in-None.ensures.steps.0) in
-    let last = subst (λ (ys : List (ℕ × ℕ)). SameListed ys (run p i (p.used - i))) (take_whole (m.steps c.args.s) k all) inv.laying.steps in
+    let last = subst (λ (ys : List (ℕ × ℕ)). SameListed ys (run p.laid i (p.used - i))) (take_whole (m.steps c.args.s) k all) inv.laying.steps in
     close_state m c.args.s i p c.is_end.result (omega arith) inv.laying.begun c.is_end.ensures inv.laying.below last

@@ -1,6 +1,6 @@
-use Rattle.std.proofs.Common.{ℕ, List, [], ◌∷◌, ◌+◌, ◌≤◌, length, length-append, sym, ap, ◌∙◌, subst, arith, rules}
+use Rattle.std.proofs.Common.{ℕ, List, [], ◌∷◌, ◌+◌, length, length-append, sym, ap, ◌∙◌, subst, rules}
 use Rattle.lts.specs.Laws.Member.{nth_last}
-use Rattle.comparison.specs.Reach.{numbers, total, Reached}
+use Rattle.comparison.specs.Reach.{numbers, Reached}
 use Rattle.comparison.proofs.Pairs.{take_whole}
 use Rattle.comparison.proofs.Tables.{reached_more, total_new, total_old, total_none, total_few, total_weight}
 use Rattle.comparison.proofs.Walking.{next_is}

@@ -1,4 +1,4 @@
-use Rattle.std.proofs.Common.{◌≡◌, ℕ, true, List, [], ◌∷◌, ◌+◌, length, length-append, subst, sym, refl, ◌∙◌, arith}
+use Rattle.std.proofs.Common.{◌≡◌, ℕ, true, List, [], ◌∷◌, length, length-append, subst, sym, refl, ◌∙◌, arith}
 use Rattle.lts.specs.Laws.Member.{nth_in, nth_last}
 use Rattle.comparison.specs.Reach.{numbers, hits, holds}
 use Rattle.comparison.proofs.Pairs.{in_hits, lacks_more, take_whole}

@@ -1,5 +1,0 @@
-use Rattle.comparison.proofs.Reading.{count_inside}
-use Rattle.comparison.proofs.flat.FlatSystem.step_count.Goals as goal
-
-pub returns : goal.returns
-returns c = count_inside c.args.self.now.of.now c.args.s c.if-s-self.false
