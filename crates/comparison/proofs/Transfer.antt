@@ -1,9 +1,9 @@
 -- Two procedures with the same steps compare alike.
-use Rattle.std.proofs.Common.{◌≡◌, ℕ, zero, suc, ◌+◌, ◌<◌, ◌≤◌, true, ltb, ◌↔◌, List, Some, None, Option, sym, ap, ◌∙◌, inl, inr, ⊎_elim, lit≤, arith}
-use Rattle.std.specs.List.{range_with_len}
-use Rattle.std.proofs.lemmas.Bool.{le-ltb, lt-ltb, cases_lt, cases_eq}
+use Rattle.std.proofs.Common.{◌≡◌, ℕ, zero, suc, ◌+◌, ◌<◌, ◌≤◌, true, ltb, ◌↔◌, List, Some, None, Option, sym, ap, ◌∙◌, ⊎_elim, lit≤, arith}
+use Rattle.std.proofs.lemmas.Bool.{le-ltb, lt-ltb, cases_lt}
 use Rattle.lts.specs.Meaning.{Meaning, Lawful, In}
-use Rattle.lts.specs.Laws.Member.{in_map}
+use Rattle.lts.specs.Laws.Member.{nth_in}
+use Rattle.lts.proofs.Reading.{step_inside}
 use Rattle.theory.specs.Rounds.{Agree, all_of, Stable}
 use Rattle.theory.specs.Formulas.{Formula, T, E, N, A, D, Holds}
 use Rattle.formulas.specs.Lines.{formula}
@@ -80,10 +80,6 @@ compares_same m n h q lines o e =
       found = found_same m n h q lines (o.rounds + 1) o.starts e.found;
     }
 
-counting_in : (k a n : ℕ) → a ≤ k → k < a + n → In k (range_with_len a n)
-counting_in k a zero low high = let b : ⊥ = omega arith in absurd b
-counting_in k a (suc n) low high = ⊎_elim (λ e. inl e) (λ ne. inr (counting_in k (a + 1) n (omega arith) (omega arith))) (cases_eq k a)
-
 -- A layout of all states has the same steps, and can be read as a system.
 module _ (m : Meaning) (law : Lawful 256 m) (p : Layout) (h : LaidOut m m.count p) where
   same_ends : (s : ℕ) → (stored p.laid).ends s ≡ m.ends s
@@ -110,9 +106,8 @@ module _ (m : Meaning) (law : Lawful 256 m) (p : Layout) (h : LaidOut m m.count 
   -- the step at a place of a state is listed
   place_listed : (s k : ℕ) → s < p.laid.states → k < many p.laid s → In (step_at p.laid (from p.laid s + k)) (m.steps s)
   place_listed s k l i =
-      let e = h.states in
       let x = step_at p.laid (from p.laid s + k) in
-      (h.steps s (omega arith)).back x.0 x.1 (in_map (step_at p.laid) (from p.laid s + k) (range_with_len (from p.laid s) (many p.laid s)) (counting_in (from p.laid s + k) (from p.laid s) (many p.laid s) (omega arith) (omega arith)))
+      (same_listed s).to x.0 x.1 (nth_in x ((stored p.laid).steps s) k (sym (step_inside p.laid s l k i)))
 
   pub laid_sound : Sound p.laid
   laid_sound =

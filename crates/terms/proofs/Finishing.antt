@@ -1,14 +1,10 @@
 -- The end of a text.
-use Rattle.std.proofs.Common.{◌≡◌, ℕ, zero, suc, ◌+◌, ◌≤◌, List, [], length, refl, ap, ◌∙◌, arith}
-use Rattle.std.specs.List.{slice_get}
+use Rattle.std.proofs.Common.{◌≡◌, ℕ, zero, suc, List, [], length, refl, ap, ◌∙◌}
 use Rattle.terms.specs.Syntax.{Tree, size, Numbered}
-use Rattle.terms.specs.Graph.{contents, leads}
-use Rattle.terms.specs.Lists.{run_of, steps_of, Lays}
 use Rattle.terms.specs.Assembly.{past, plus}
 use Rattle.terms.specs.Names.{known, one, stacked}
 use Rattle.terms.specs.Reader.{partial, place, opened, Counted}
 use Rattle.terms.specs.Table.{at, Joined}
-use Rattle.terms.specs.declared.listing.Listing.{Listing}
 use Rattle.terms.specs.declared.nodes.Nodes.{Nodes}
 use Rattle.terms.specs.declared.term.reader.Frame.{Frame}
 use Rattle.terms.specs.declared.term.reader.Reader.{Reader}
@@ -33,14 +29,3 @@ module _ (r : Reader) (n : Nodes) (x k : ℕ) (c : Counted (partial r)) (e : r.p
 
   pub end_order : Numbered 0 (at n k)
   end_order = rw j.tree ((c (partial r).sum (at r.nodes x) r.actions (whole r x e o)).1)
-
-  module _ (l : Listing) (lays : Lays (at n k) l) where
-    pub end_inside : (s : ℕ) → s ≤ r.actions → (run_of l s).from + (run_of l s).count ≤ 63
-    end_inside s h =
-        let i = (lays.each s (omega (arith, end_size))).inside in
-        let w = lays.written in
-        let few = r.few in
-        omega (arith, end_size)
-
-    pub end_listed : (s : ℕ) → s ≤ r.actions → steps_of l s ≡ leads (slice_get (contents (at n k)) s)
-    end_listed s h = (lays.each s (omega (arith, end_size))).steps

@@ -7,7 +7,6 @@ pub mod letter;
 mod listing;
 pub mod node;
 mod nodes;
-mod run;
 pub mod term;
 
 pub use term::Term;

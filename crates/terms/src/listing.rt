@@ -1,39 +1,42 @@
 // The steps of a term's states, written out once. What can come first of the whole term, and of the second part of each sequence,
 // stands in a run of its own, and each state has one of these runs.
-ghost use Rattle.std.specs.Prelude.{◌≡◌, ◌≤◌, length};
+ghost use Rattle.std.specs.Prelude.{◌≡◌, ℕ, ◌<◌, false, length, nat_eq, slice_index_or};
+ghost use Rattle.lts.specs.Layout.{many};
 
 use crate::nodes::{Parts, Subterm};
-use crate::run::Run;
+use lts::{Laid, Run};
 
-// Arrays with the number of places used, since the core allocates nothing.
-#[derive(Clone, Copy)]
+#[derive(Drop)]
 pub struct Listing {
-    // Actions with their places, of which so many are listed.
-    pub steps: [(u8, u8); 63],
-    pub listed: u8,
-    // The runs of so many states, in the order of the states.
-    pub runs: [Run; 64],
-    pub states: u8,
-    ghost steps_room: { length steps ≡ 63 },
-    ghost runs_room: { length runs ≡ 64 },
+    // The runs of the states, in their order: so many were given one.
+    pub laid: Laid<64, 63>,
+    // How many steps are listed.
+    pub listed: u16,
+    ghost steps_room: { length laid.steps ≡ 63 },
+    ghost runs_room: { length laid.runs ≡ 64 },
+    ghost ends_room: { length laid.ends ≡ 64 },
+    ghost ended: { (s : ℕ) → s < laid.states → slice_index_or laid.ends s false ≡ nat_eq (many laid s) 0 },
 }
 
 impl Listing {
     ghost use Rattle.std.specs.Prelude.{◌≡◌, ◌+◌, ◌<◌, ◌≤◌, length};
     ghost use Rattle.terms.specs.Graph.{firsts};
-    ghost use Rattle.terms.specs.Lists.{Shows, Listed, Given, Pushed, Fits, Follows, Lays};
+    ghost use Rattle.terms.specs.Lists.{Shows, Listed, Given, Pushed, Fits, Follows, Drawn};
     ghost use Rattle.terms.specs.Syntax.{size};
     ghost use Rattle.terms.specs.Table.{subtree};
 
     fn new() -> Listing
         ensures listed { result.listed ≡ 0 }
-        ensures states { result.states ≡ 0 }
+        ensures states { result.laid.states ≡ 0 }
     {
         Listing {
-            steps: [(0, 0); 63],
+            laid: Laid {
+                states: 0,
+                ends: [false; 64],
+                runs: [Run { from: 0, count: 0 }; 64],
+                steps: [(0, 0); 63],
+            },
             listed: 0,
-            runs: [Run { from: 0, count: 0 }; 64],
-            states: 0,
         }
     }
 
@@ -42,17 +45,19 @@ impl Listing {
         requires { self.old.listed < 63 }
         ensures { Pushed self.old action place self.new }
     {
-        self.steps[self.listed as usize] = (action, place);
+        self.laid.steps[self.listed as usize] = (action, place);
         self.listed += 1;
     }
 
-    // The run of one state more.
+    // The run of one state more: where it holds no step, nothing remains.
     fn give(&mut self, run: Run)
-        requires { self.old.states < 64 }
+        requires { self.old.laid.states < 64 }
         ensures { Given self.old run self.new }
     {
-        self.runs[self.states as usize] = run;
-        self.states += 1;
+        let s = self.laid.states as usize;
+        self.laid.runs[s] = run;
+        self.laid.ends[s] = run.count == 0;
+        self.laid.states += 1;
     }
 
     // Lists the actions that can come first.
@@ -103,15 +108,15 @@ impl Listing {
         }
     }
 
-    // The steps of every state of a term.
-    pub(crate) fn of(term: Subterm) -> Listing
+    // The states of a term, with their ends and steps.
+    pub(crate) fn of(term: Subterm) -> Laid<64, 63>
         requires { size (subtree term) ≤ 63 }
-        ensures { Lays (subtree term.entry) result }
+        ensures { Drawn (subtree term.entry) result }
     {
         let mut listing = Listing::new();
         let whole = listing.run(term);
         listing.give(whole);
         listing.behind(term, Run { from: 0, count: 0 });
-        listing
+        listing.laid
     }
 }

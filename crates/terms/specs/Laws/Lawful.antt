@@ -53,4 +53,4 @@ graph_lawful t small order =
     }
 
 pub term_lawful : (x : Term) → Lawful 64 (graph (tree_of x))
-term_lawful x = graph_lawful (tree_of x) (omega (arith, x.sized, x.few)) x.order
+term_lawful x = graph_lawful (tree_of x) x.small x.order

@@ -166,8 +166,7 @@ impl Reader {
                 Ok(Term {
                     nodes,
                     root,
-                    actions: self.actions,
-                    listing: Listing::of(nodes.subterm(root)),
+                    laid: Listing::of(nodes.subterm(root)),
                 })
             }
             _ => Err(TermFault::Early(end)),

@@ -1,23 +1,19 @@
 // A term read as a source: its states are the places in its text.
-ghost use Rattle.std.specs.Prelude.{◌≡◌, IsSome, MatchOption};
-ghost use Rattle.std.specs.List.{slice_get};
+ghost use Rattle.std.specs.Prelude.{◌≡◌};
 ghost use Rattle.std.proofs.Common.{lit≤};
 ghost use Rattle.lts.specs.Laws.Most.{wider};
-ghost use Rattle.terms.specs.Graph.{contents, graph, leads};
+ghost use Rattle.terms.specs.Graph.{graph};
 ghost use Rattle.terms.specs.Laws.Lawful.{term_lawful};
 ghost use Rattle.terms.specs.Terms.{tree_of};
 
 use crate::term::Term;
-use lts::{Most, Source, System};
+use lts::{Most, Source, Stored, System};
 
 impl Term {
-    // The steps of a state, if there is such a state.
-    fn steps(&self, s: usize) -> Option<&[(u8, u8)]>
-        ensures { let held = slice_get (contents (tree_of self.now)) s in MatchOption result (held ≡ None) (λ steps. IsSome held × (steps.now ≡ leads held)) }
+    fn stored(&self) -> Stored<'_, 64, 63>
+        ensures { result.of.now ≡ self.now.laid }
     {
-        let run = self.listing.runs[..self.states()].get(s)?;
-        let from = run.from as usize;
-        Some(&self.listing.steps[from..from + run.count as usize])
+        Stored { of: &self.laid }
     }
 }
 
@@ -27,19 +23,19 @@ impl System for Term {
     ghost lawful = { λ x. wider (lit≤ tt) (term_lawful x) };
 
     fn states(&self) -> usize {
-        self.actions as usize + 1
+        self.stored().states()
     }
 
     fn is_end(&self, s: usize) -> bool {
-        self.steps(s).is_some_and(|steps| steps.is_empty())
+        self.stored().is_end(s)
     }
 
     fn step_count(&self, s: usize) -> usize {
-        self.steps(s).map_or(0, |steps| steps.len())
+        self.stored().step_count(s)
     }
 
     fn step(&self, s: usize, k: usize) -> Option<(u8, u8)> {
-        self.steps(s)?.get(k).copied()
+        self.stored().step(s, k)
     }
 }
 

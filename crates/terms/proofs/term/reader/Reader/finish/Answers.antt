@@ -1,7 +1,7 @@
 use Rattle.std.proofs.Common.{◌≡◌, arith}
-use Rattle.terms.specs.Lists.{Lays}
+use Rattle.terms.specs.Lists.{Drawn}
 use Rattle.terms.specs.Table.{at, subtree}
-use Rattle.terms.proofs.Finishing.{end_size, end_order, end_inside, end_listed}
+use Rattle.terms.proofs.Finishing.{end_size, end_order}
 use Rattle.terms.proofs.term.reader.Reader.finish.Goals as goal
 
 pub of-requires : goal.of-requires
@@ -24,12 +24,11 @@ invariant_of-result c =
     let j = c.add-root.ensures in
     let s = c.subterm.ensures in
     let same : subtree c.subterm.result ≡ at n k = cc in
-    let lays : Lays (at n k) c.of.result = rw same at c.of.ensures in
+    let few = r.few in
+    let drawn : Drawn (at n k) c.of.result = rw same at c.of.ensures in
     record {
       rooted = j.below;
-      few = r.few;
-      sized = end_size r n x k c.requires e o j;
+      small = omega (arith, end_size r n x k c.requires e o j);
       order = end_order r n x k c.requires e o j;
-      inside = end_inside r n x k c.requires e o j c.of.result lays;
-      listed = end_listed r n x k c.requires e o j c.of.result lays;
+      drawn = drawn;
     }

@@ -1,6 +1,8 @@
-use Rattle.std.proofs.Common.{rules}
-use Rattle.terms.proofs.Asking.{told_end}
+use Rattle.std.proofs.Common.{ap, ◌∙◌}
+use Rattle.lts.specs.Meaning.{Meaning}
+use Rattle.lts.specs.Layout.{stored}
+use Rattle.terms.proofs.Asking.{told}
 use Rattle.terms.proofs.term.source.TermSystem.is_end.Goals as goal
 
 pub returns : goal.returns
-returns c = told_end (λ r. r.now) _ c.steps.result c.is_some_and.result _ c.steps.ensures (λ r p. search rules) c.is_some_and.ensures
+returns c = c.is_end.ensures ∙ ap (λ (m : Meaning). m.ends c.args.s) (ap stored c.stored.ensures ∙ told c.args.self.now)

@@ -1,6 +1,8 @@
-use Rattle.std.proofs.Common.{rules}
-use Rattle.terms.proofs.Asking.{told_count}
+use Rattle.std.proofs.Common.{length, ap, ◌∙◌}
+use Rattle.lts.specs.Meaning.{Meaning}
+use Rattle.lts.specs.Layout.{stored}
+use Rattle.terms.proofs.Asking.{told}
 use Rattle.terms.proofs.term.source.TermSystem.step_count.Goals as goal
 
 pub returns : goal.returns
-returns c = told_count (λ r. r.now) _ c.steps.result c.map_or.result _ c.steps.ensures (λ r p. search rules) c.map_or.ensures
+returns c = c.step_count.ensures ∙ ap (λ (m : Meaning). length (m.steps c.args.s)) (ap stored c.stored.ensures ∙ told c.args.self.now)

@@ -1,0 +1,8 @@
+use Rattle.std.proofs.Common.{ap, ◌∙◌}
+use Rattle.lts.specs.Meaning.{Meaning}
+use Rattle.lts.specs.Layout.{stored}
+use Rattle.terms.proofs.Asking.{told}
+use Rattle.terms.proofs.term.source.TermSystem.states.Goals as goal
+
+pub returns : goal.returns
+returns c = c.states.ensures ∙ ap (λ (m : Meaning). m.count) (ap stored c.stored.ensures ∙ told c.args.self.now)
