@@ -10,7 +10,7 @@ use lts::{Laid, Run};
 pub struct Listing {
     // The runs of the states, in their order: so many were given one.
     pub laid: Laid<64, 63>,
-    // How many steps are listed.
+    // How many steps are listed: an array with its count, since the core allocates nothing.
     pub listed: u16,
     ghost steps_room: { length laid.steps ≡ 63 },
     ghost runs_room: { length laid.runs ≡ 64 },
