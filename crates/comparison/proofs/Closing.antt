@@ -9,12 +9,14 @@ use Rattle.theory.specs.Classes.{Numbering}
 use Rattle.formulas.specs.declared.line.Line.{Line}
 use Rattle.comparison.specs.Reach.{numbers, hits}
 use Rattle.comparison.specs.Contrasts.{Alike}
+use Rattle.comparison.specs.Links.{Linked}
 use Rattle.comparison.specs.Drafts.{fresh}
 use Rattle.comparison.specs.Standing.{Standing, Working, land}
 use Rattle.comparison.specs.declared.draft.Draft.{Draft}
 use Rattle.comparison.specs.declared.draft.Weighed.{Weighed}
+use Rattle.comparison.specs.declared.links.Links.{Links}
 use Rattle.comparison.specs.declared.partition.Partition.{Partition}
-use Rattle.comparison.proofs.Linking.{none_linked}
+use Rattle.comparison.proofs.Linking.{cleared_linked}
 use Rattle.comparison.proofs.Marking.{marks_like, marks_deeper}
 use Rattle.comparison.proofs.Rounding.{alike_agree}
 
@@ -26,8 +28,8 @@ none_yet n i =
     (cases_lt i n)
 
 -- before the first state of a round
-pub opening : (m : Meaning) (k : ℕ) (old : Partition) (lines : List Line) → Standing m k lines old → Working m k 0 old lines (fresh old)
-opening m k old lines h =
+pub opening : (m : Meaning) (k : ℕ) (old : Partition) (lines : List Line) (x : Links) → Linked x → Standing m k lines old → Working m k 0 old lines (fresh old x)
+opening m k old lines x linked h =
     let b = h.based in
     let num = b.numbering in
     record {
@@ -36,7 +38,7 @@ opening m k old lines h =
       marks_size = b.marks_size;
       leaders_size = length-replicate {A = Option Weighed} 256 None;
       counted = sym (add-zero old.count);
-      linked = none_linked;
+      linked = cleared_linked x linked;
       born = λ t l. let z : ⊥ = omega arith in absurd z;
       drawn = λ j l. let z : ⊥ = omega arith in absurd z;
       landing =

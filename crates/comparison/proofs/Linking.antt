@@ -3,7 +3,7 @@ use Rattle.std.proofs.Common.{◌≡◌, ℕ, zero, suc, ◌+◌, ◌-◌, ◌<�
 use lib.ListN.{length-replicate}
 use Rattle.std.proofs.lemmas.List.{get_or-replicate, get_or-set_same, get_or-set_other}
 use Rattle.comparison.specs.Landing.{unsplit, sent}
-use Rattle.comparison.specs.Links.{from_at, Next, Chained, begun, unlinked, pushed, Born, Linked}
+use Rattle.comparison.specs.Links.{from_at, Next, Chained, begun, unlinked, cleared, pushed, Born, Linked}
 use Rattle.comparison.specs.declared.links.Chain.{Chain}
 use Rattle.comparison.specs.declared.links.Links.{Links}
 use Rattle.comparison.specs.declared.split.Split.{Split}
@@ -50,6 +50,11 @@ module _ (x : Links) (h : Linked x) (room : x.made < 256) (z : Split) (low : z.f
   pub born_more : (first : ℕ) (chains : List (Option Chain)) (nexts : List (Option ℕ)) → Born first x → z.from < first + x.made → Born first (pushed x z chains nexts)
   born_more first chains nexts born new = let n = h.splits_size in grind (arith, get_or-set_same, get_or-set_other)
 
+-- where no class has a split
+bare : (splits : List Split) (c : ℕ) → c < 256 → Chained splits 0 c (get_or {A = Option Chain} (replicate 256 None) c None)
+bare splits c l =
+    subst (Chained splits 0 c) (sym (get_or-replicate {A = Option Chain} 256 c None None l)) (λ t a b e. let z : ⊥ = omega arith in absurd z)
+
 -- before the first split
 pub none_linked : Linked unlinked
 none_linked =
@@ -57,6 +62,17 @@ none_linked =
       splits_size = length-replicate 256 unsplit;
       chains_size = length-replicate {A = Option Chain} 256 None;
       nexts_size = length-replicate {A = Option ℕ} 256 None;
-      chains = λ c l. subst (Chained (replicate 256 unsplit) 0 c) (sym (get_or-replicate {A = Option Chain} 256 c None None l)) (λ t a b e. let z : ⊥ = omega arith in absurd z);
+      chains = bare (replicate 256 unsplit);
+      nexts = λ t l. let b : ⊥ = omega arith in absurd b;
+    }
+
+-- and where there is none any more
+pub cleared_linked : (x : Links) → Linked x → Linked (cleared x)
+cleared_linked x h =
+    record {
+      splits_size = h.splits_size;
+      chains_size = length-replicate {A = Option Chain} 256 None;
+      nexts_size = h.nexts_size;
+      chains = bare x.splits;
       nexts = λ t l. let b : ⊥ = omega arith in absurd b;
     }

@@ -9,7 +9,7 @@ use Rattle.theory.specs.Formulas.{Formula, T, E, N, A, D, Holds}
 use Rattle.formulas.specs.Lines.{formula}
 use Rattle.formulas.specs.declared.line.Line.{Line}
 use Rattle.comparison.specs.Found.{Found}
-use Rattle.lts.specs.Layout.{step_at, from, many, stored, Sound}
+use Rattle.lts.specs.Layout.{step_at, from, many, stored, Readable}
 use Rattle.comparison.specs.Layouts.{SameListed, SameSteps, LaidOut}
 use Rattle.comparison.specs.Outcomes.{Compares}
 use Rattle.comparison.specs.declared.layout.Layout.{Layout}
@@ -109,8 +109,8 @@ module _ (m : Meaning) (law : Lawful 256 m) (p : Layout) (h : LaidOut m m.count 
       let x = step_at p.laid (from p.laid s + k) in
       (same_listed s).to x.0 x.1 (nth_in x ((stored p.laid).steps s) k (sym (step_inside p.laid s l k i)))
 
-  pub laid_sound : Sound p.laid
-  laid_sound =
+  pub laid_readable : Readable p.laid
+  laid_readable =
       let e = h.states in
       let some = law.some in
       let few = law.few in

@@ -1,15 +1,16 @@
 -- What is done to a round in progress.
 use Rattle.std.specs.Prelude.{◌≡◌, ℕ, ◌+◌, ◌<◌, ◌⊎◌, List, length, replicate, Some, None, Option, slice_set}
-use Rattle.comparison.specs.Links.{unlinked, pushed}
+use Rattle.comparison.specs.Links.{cleared, pushed}
 use Rattle.comparison.specs.declared.draft.Draft.{Draft}
 use Rattle.comparison.specs.declared.draft.Weighed.{Weighed}
 use Rattle.comparison.specs.declared.links.Chain.{Chain}
+use Rattle.comparison.specs.declared.links.Links.{Links}
 use Rattle.comparison.specs.declared.partition.Partition.{Partition}
 use Rattle.comparison.specs.declared.split.Split.{Split}
 
--- nothing is split, and no state settled
-abbrev pub fresh : Partition → Draft
-fresh old = record { next = old; links = unlinked; leaders = replicate 256 None }
+-- nothing is split, and no state settled, where these were the links of the round before
+abbrev pub fresh : Partition → Links → Draft
+fresh old links = record { next = old; links = cleared links; leaders = replicate 256 None }
 
 -- state s joins class d
 abbrev pub joined : Draft → ℕ → ℕ → Draft

@@ -41,6 +41,10 @@ begun (Some x) = Some x.first
 abbrev pub unlinked : Links
 unlinked = record { splits = replicate 256 unsplit; made = 0; chains = replicate 256 None; nexts = replicate 256 None }
 
+-- no split any more
+abbrev pub cleared : Links → Links
+cleared x = record { splits = x.splits; made = 0; chains = replicate 256 None; nexts = x.nexts }
+
 -- one split more
 abbrev pub pushed : Links → Split → List (Option Chain) → List (Option ℕ) → Links
 pushed x y chains nexts = record { splits = slice_set x.splits x.made y; made = x.made + 1; chains = chains; nexts = nexts }

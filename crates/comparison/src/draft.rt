@@ -25,15 +25,28 @@ pub struct Draft {
 }
 
 impl Draft {
-    // Nothing is split, and no state settled.
-    pub fn new(old: &Partition) -> Draft
-        ensures { result ≡ fresh old.now }
+    // Room for a round.
+    pub fn new() -> Draft
+        ensures { Linked result.links }
     {
         Draft {
-            next: *old,
+            next: Partition {
+                class: [0; 256],
+                marks: [0; 256],
+                count: 0,
+            },
             links: Links::new(),
             leaders: [None; 256],
         }
+    }
+
+    // A round begins behind these classes: nothing is split, and no state settled.
+    pub fn begin(&mut self, old: &Partition)
+        ensures { self.new ≡ fresh old.now self.old.links }
+    {
+        self.next = *old;
+        self.links.clear();
+        self.leaders = [None; 256];
     }
 
     // The leader of class d, where it has one.

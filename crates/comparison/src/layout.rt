@@ -18,12 +18,12 @@ pub struct Layout {
 
 impl Layout {
     // So many states, none laid out yet.
-    fn bare<S: System>(system: &S) -> Layout
+    pub fn bare<S: System>(system: &S) -> Layout
         ensures { LaidOut (S.meaning system.now) 0 result }
     {
         Layout {
             laid: Laid {
-                states: system.states() as u16,
+                states: system.states(),
                 ends: [false; 256],
                 runs: [Run { from: 0, count: 0 }; 256],
                 steps: [(0, 0); 2048],
@@ -69,14 +69,14 @@ impl Layout {
         Some(())
     }
 
-    // All states, where there is room.
-    pub fn of<S: System>(system: &S, seen: &mut Reach) -> Option<Layout>
-        ensures { IfSome result (λ p. LaidOut (S.meaning system.now) (S.meaning system.now).count p) }
+    // Lays out all states, where there is room.
+    pub fn lay_all<S: System>(&mut self, system: &S, seen: &mut Reach) -> Option<()>
+        requires { LaidOut (S.meaning system.now) 0 self.old }
+        ensures { IfSome result (λ _. LaidOut (S.meaning system.now) (S.meaning system.now).count self.new) }
     {
-        let mut layout = Layout::bare(system);
         for s in 0..system.states() {
-            layout.lay(system, s, seen)?;
+            self.lay(system, s, seen)?;
         }
-        Some(layout)
+        Some(())
     }
 }

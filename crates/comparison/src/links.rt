@@ -2,7 +2,7 @@
 ghost use Rattle.std.specs.Prelude.{◌≡◌, ◌+◌, ◌<◌, ◌≤◌, length, None, slice_index_or};
 ghost use Rattle.comparison.specs.Reach.{holds};
 ghost use Rattle.comparison.specs.Landing.{sent, Drawn};
-ghost use Rattle.comparison.specs.Links.{begun, unlinked, pushed, Born, Linked};
+ghost use Rattle.comparison.specs.Links.{begun, unlinked, cleared, pushed, Born, Linked};
 
 use crate::reach::Reach;
 use crate::split::Split;
@@ -42,6 +42,14 @@ impl Links {
             chains: [None; 256],
             nexts: [None; 256],
         }
+    }
+
+    // No split any more. What was linked stays in the arrays, since no class leads to it.
+    pub fn clear(&mut self)
+        ensures { self.new ≡ cleared self.old }
+    {
+        self.made = 0;
+        self.chains = [None; 256];
     }
 
     // The first split of class c.

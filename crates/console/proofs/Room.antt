@@ -2,7 +2,7 @@
 use Rattle.std.proofs.Common.{◌≡◌, ℕ, ◌+◌, ◌-◌, ◌*◌, ◌≤◌, Bool, true, false, cond, ltb, List, get_or, is_some, Some, None, Option, refl, arith}
 use Rattle.std.proofs.lemmas.Bool.{le-ltb, or_from}
 use Rattle.lts.specs.Copying.{total}
-use Rattle.lts.specs.Laws.Stored.{stored_lawful}
+use Rattle.lts.specs.Laws.Stored.{sound_lawful}
 use Rattle.lts.specs.Layout.{stored}
 use Rattle.lts.specs.Meaning.{Meaning, Lawful}
 use Rattle.accounts.specs.Account.{Account}
@@ -26,7 +26,7 @@ other_rows n false false false e h q = never (cc)
 
 module _ (number made : ℕ) (rows : List (Option Row)) (kept : ∥ AllKept rows ∥₁) (s : ℕ) {m : Meaning} (lawful : Lawful 128 m) where
   few : (row : Row) → get_or rows s None ≡ Some row → cramped (stored row.force) m 1021 256 ≡ false
-  few row e = uncramped (stored row.force) m (stored_lawful row.force (force_sound rows s row kept e)).few lawful.few
+  few row e = uncramped (stored row.force) m (sound_lawful row.force (force_sound rows s row kept e)).few lawful.few
 
   slot_rows : (n : ℕ) (above : Bool) (o : Option Row) → get_or rows s None ≡ o → ◌≡◌ {A = Option ℕ} (cond above (Some 20) (in_slot (row_account o) (Some 22) (λ x. cond (is_some x.pending) (Some 23) (cond (ltb 512 (total m)) (Some 24) (cond (cramped x.force m 1021 256) (Some 25) None))))) (Some n) → n ≡ 25 → ⊥
   slot_rows n true o e h q = never (cc)

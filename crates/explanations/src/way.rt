@@ -14,9 +14,6 @@ use listings::action_offset;
 use lts::System;
 use std::alloc::{AllocError, Global};
 
-// The marks of 1,021 lines at 128 states.
-const MOST_MARKS: usize = 130688;
-
 // What a formula asks for first: an action, and the formula that has to hold behind it.
 fn lead<'a>(formula: FormulaLine<'a>) -> Option<(u8, FormulaLine<'a>)>
     ensures { Leads formula.entry result }
@@ -71,11 +68,18 @@ pub fn way<S: System>(
     requires holds { Holds (S.meaning source.now) 0 (shown formula) }
     ensures { IfOk result (λ steps. Way (S.meaning source.now) 0 (shown formula.entry) steps.items) }
 {
-    let mut work = [0; MOST_MARKS];
-    let Ok(_) = evaluate(source, formula.lines, formula.line as usize, 0, &mut work) else {
+    // The marks of all lines, up to 130,688. In a `Vec`: on the stack, equal procedures would need room for them too.
+    let mut work = vec![in heap; 0; formula.lines.len() * source.states()]?;
+    let Ok(_) = evaluate(
+        source,
+        formula.lines,
+        formula.line as usize,
+        0,
+        work.as_mut_slice(),
+    ) else {
         unreachable!()
     };
-    follow(heap, source, formula, &work)
+    follow(heap, source, formula, work.as_slice())
 }
 
 // Where the action of a step stands in the left text.

@@ -8,7 +8,8 @@ use Rattle.lts.specs.Copying.{before}
 use Rattle.lts.specs.Filling.{Filled}
 use Rattle.lts.specs.declared.laid.Run.{Run}
 use Rattle.lts.specs.Laws.Member.{nth_is}
-use Rattle.lts.proofs.Counting.{before_more, before_rises}
+use Rattle.lts.specs.Laws.Counting.{before_more}
+use Rattle.lts.proofs.Counting.{before_rises}
 
 abbrev pub with_step : Procedure → ℕ → ℕ × ℕ → Procedure
 with_step p k x = record { states = p.states; ends = p.ends; runs = p.runs; steps = set p.steps k x }

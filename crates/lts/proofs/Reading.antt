@@ -4,7 +4,7 @@ use Rattle.std.specs.List.{slice_get}
 use Rattle.std.proofs.lemmas.List.FromFn.{length-map-range_with_len, get_or-map-range_with_len}
 use Rattle.std.proofs.lemmas.Option.{slice_get-get_or}
 use Rattle.std.proofs.lemmas.Bool.{lt-ltb, le-ltb, cases_lt}
-use Rattle.lts.specs.Layout.{from, many, step_at, listed, stored, Sound}
+use Rattle.lts.specs.Layout.{from, many, step_at, listed, stored, Readable}
 use Rattle.lts.specs.declared.laid.Laid.{Laid}
 
 module _ {most room : ℕ} (p : Laid most room) (s : ℕ) where
@@ -27,11 +27,11 @@ module _ {most room : ℕ} (p : Laid most room) (s : ℕ) where
         rw (lt-ltb s p.states inside) (sym (rw g at e))
 
 -- the k-th listed step of state s stands at a place inside the array
-pub placed : {most room : ℕ} (p : Laid most room) → Sound p → (s k : ℕ) → k < length ((stored p).steps s) → (s < p.states) × (s < most) × (k < many p s) × (from p s + k < room) × (from p s + k < 4096)
-placed p sound s k h =
+pub placed : {most room : ℕ} (p : Laid most room) → Readable p → (s k : ℕ) → k < length ((stored p).steps s) → (s < p.states) × (s < most) × (k < many p s) × (from p s + k < room) × (from p s + k < 4096)
+placed p readable s k h =
     let i = lists_inside p s k h in
     let n = count_inside p s i in
-    let few = sound.few in
-    let end = sound.inside s i in
-    let short = sound.steps_room in
+    let few = readable.few in
+    let end = readable.inside s i in
+    let short = readable.steps_room in
     (i, omega arith, omega arith, omega arith, omega arith)

@@ -1,5 +1,5 @@
 -- What states laid out flat mean: the steps of state s stand at `many` places from place `from` on.
-use Rattle.std.specs.Prelude.{ℕ, ◌+◌, ◌<◌, ◌≤◌, false, cond, ◌&&◌, List, [], map, nat_lt, slice_index_or}
+use Rattle.std.specs.Prelude.{◌≡◌, ℕ, ◌+◌, ◌-◌, ◌<◌, ◌≤◌, false, cond, ◌&&◌, List, [], map, nat_lt, slice_index_or}
 use Rattle.std.specs.List.{range_with_len}
 use Rattle.lts.specs.Meaning.{Meaning}
 use Rattle.lts.specs.declared.laid.Laid.{Laid}
@@ -35,7 +35,7 @@ module _ {most room : ℕ} where
   stored p = record { count = p.states; ends = λ s. nat_lt s p.states && slice_index_or p.ends s false; steps = λ s. cond (nat_lt s p.states) (listed p s) [] }
 
   -- what makes it readable as a system
-  pub record Sound (p : Laid most room) : Type 0 where
+  pub record Readable (p : Laid most room) : Type 0 where
     pub some : 1 ≤ p.states
     pub few : p.states ≤ most
     pub states_room : most ≤ 256
@@ -43,3 +43,16 @@ module _ {most room : ℕ} where
     pub inside : (s : ℕ) → s < p.states → from p s + many p s ≤ room
     pub acts : (s k : ℕ) → s < p.states → k < many p s → (step_at p (from p s + k)).0 ≤ 63
     pub aims : (s k : ℕ) → s < p.states → k < many p s → (step_at p (from p s + k)).1 < p.states
+
+-- where the steps of the last state end
+abbrev pub end : Procedure → ℕ
+end p = from p (p.states - 1) + many p (p.states - 1)
+
+-- what makes a procedure in a slot readable as a source: the steps of its states stand one behind another
+pub record Sound (p : Procedure) : Type 0 where
+  pub some : 1 ≤ p.states
+  pub few : p.states ≤ 128
+  pub behind : (s : ℕ) → s + 1 < p.states → from p (s + 1) ≡ from p s + many p s
+  pub room : end p ≤ 512
+  pub acts : (k : ℕ) → k < end p → (step_at p k).0 ≤ 63
+  pub aims : (k : ℕ) → k < end p → (step_at p k).1 < p.states

@@ -3,7 +3,8 @@ ghost use Rattle.std.specs.Prelude.{◌≡◌, ◌+◌, ◌<◌, ◌≤◌, leng
 ghost use Rattle.lts.specs.Copying.{before, total, Copied};
 ghost use Rattle.lts.specs.Filling.{Filled};
 
-use crate::laid::{Procedure, Run};
+use crate::laid::Run;
+use crate::procedure::Procedure;
 use crate::source::Source;
 use crate::steps::Steps;
 use crate::system::System;
@@ -23,12 +24,14 @@ fn step_total<S: System>(source: &S) -> usize
 fn bare<const N: usize, S: Source<N>>(source: &S) -> Procedure
     ensures { Filled (S.meaning source.now) 0 0 result }
 {
+    let states = source.states();
     let mut ends = [false; 128];
-    for (s, end) in ends.iter_mut().enumerate() {
-        *end = source.is_end(s);
+    // By index: no state is asked that the source doesn't have.
+    for s in 0..states {
+        ends[s] = source.is_end(s);
     }
     Procedure {
-        states: source.states() as u16,
+        states,
         ends,
         runs: [Run { from: 0, count: 0 }; 128],
         steps: [(0, 0); 512],
@@ -49,18 +52,21 @@ fn copy_steps<const N: usize, S: Source<N>>(
     ensures behind { result ≡ before (S.meaning source.now) (s + 1) }
     ensures filled { Filled (S.meaning source.now) (s + 1) 0 to.new }
 {
-    let count = source.step_count(s);
-    for (k, step) in Steps::of(source, s).enumerate() {
-        to.steps[from + k] = step;
+    let mut end = from;
+    for step in Steps::of(source, s) {
+        to.steps[end] = step;
+        end += 1;
     }
     to.runs[s] = Run {
         from: from as u16,
-        count: count as u16,
+        count: (end - from) as u16,
     };
-    from + count
+    end
 }
 
-// A procedure with the meaning of the source, unless it lists more than 512 steps.
+// A procedure with the meaning of the source, unless it lists more than 512 steps. It stays a call of its own: a function clears the
+// room of its locals, and so would the caller.
+#[inline(never)]
 pub fn copied<const N: usize, S: Source<N>>(source: &S) -> Option<Procedure>
     ensures { Copied (S.meaning source.now) result }
 {

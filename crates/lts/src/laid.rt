@@ -10,11 +10,8 @@ pub struct Run {
 // A plain value: the states with their end marks, and the steps of all of them in one array, each its action and target.
 #[derive(Clone, Copy)]
 pub struct Laid<const STATES: usize, const STEPS: usize> {
-    pub states: u16,
+    pub states: usize,
     pub ends: [bool; STATES],
     pub runs: [Run; STATES],
     pub steps: [(u8, u8); STEPS],
 }
-
-// A procedure as it is kept in a slot.
-pub type Procedure = Laid<128, 512>;

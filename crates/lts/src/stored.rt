@@ -1,48 +1,52 @@
-// States laid out flat, read as a system.
+// A stored procedure read as a source.
 ghost use Rattle.std.proofs.Common.{lit≤};
+ghost use Rattle.std.specs.Prelude.{◌≡◌};
 ghost use Rattle.lts.specs.Layout.{Sound, stored};
 ghost use Rattle.lts.specs.Laws.Most.{wider};
-ghost use Rattle.lts.specs.Laws.Stored.{stored_lawful};
+ghost use Rattle.lts.specs.Laws.Stored.{sound_lawful};
 
-use crate::laid::Laid;
+use crate::flat::Flat;
+use crate::procedure::Procedure;
 use crate::source::{Most, Source};
 use crate::system::System;
 
 #[derive(Clone, Copy)]
-pub struct Stored<'a, const STATES: usize, const STEPS: usize> {
-    pub of: &'a Laid<STATES, STEPS>,
+pub struct Stored<'a> {
+    pub of: &'a Procedure,
     ghost sound: { Sound of.now },
 }
 
-impl<'a, const STATES: usize, const STEPS: usize> System for Stored<'a, STATES, STEPS> {
-    ghost meaning = { λ x. stored x.of.now };
-
-    ghost lawful = { λ x. wider x.sound.states_room (stored_lawful x.of.now x.sound) };
-
-    fn states(&self) -> usize {
-        self.of.states as usize
-    }
-
-    fn is_end(&self, s: usize) -> bool {
-        s < self.of.states as usize && self.of.ends[s]
-    }
-
-    fn step_count(&self, s: usize) -> usize {
-        if s >= self.of.states as usize {
-            return 0;
-        }
-        self.of.runs[s].count as usize
-    }
-
-    fn step(&self, s: usize, k: usize) -> Option<(u8, u8)> {
-        if k >= self.step_count(s) {
-            return None;
-        }
-        Some(self.of.steps[self.of.runs[s].from as usize + k])
+impl<'a> Stored<'a> {
+    fn flat(&self) -> Flat<'_, 128, 512>
+        ensures { result.of.now ≡ self.now.of.now }
+    {
+        Flat { of: self.of }
     }
 }
 
-impl<'a> Source<128> for Stored<'a, 128, 512> {
+impl<'a> System for Stored<'a> {
+    ghost meaning = { λ x. stored x.of.now };
+
+    ghost lawful = { λ x. wider (lit≤ tt) (sound_lawful x.of.now x.sound) };
+
+    fn states(&self) -> usize {
+        self.flat().states()
+    }
+
+    fn is_end(&self, s: usize) -> bool {
+        self.flat().is_end(s)
+    }
+
+    fn step_count(&self, s: usize) -> usize {
+        self.flat().step_count(s)
+    }
+
+    fn step(&self, s: usize, k: usize) -> Option<(u8, u8)> {
+        self.flat().step(s, k)
+    }
+}
+
+impl<'a> Source<128> for Stored<'a> {
     const MOST: Most<128> = Most { states: 128 };
 
     ghost bounded = { lit≤ tt };

@@ -2,7 +2,7 @@
 use Rattle.std.proofs.Common.{◌≡◌, ℕ, ◌+◌, ◌-◌, ◌*◌, ◌<◌, true, false, cond, ltb, List, length, is_some, Some, None, Ok, Err, Option, Result, sym, refl, ap, ◌∙◌, subst, inl, inr, ⊎_elim, arith}
 use Rattle.std.proofs.lemmas.Bool.{lt-ltb, le-ltb, or_left, or_right, or_from, cases_lt}
 use Rattle.lts.specs.Copying.{total}
-use Rattle.lts.specs.Laws.Stored.{stored_lawful}
+use Rattle.lts.specs.Laws.Stored.{sound_lawful}
 use Rattle.lts.specs.Layout.{Procedure, stored}
 use Rattle.lts.specs.Meaning.{Meaning, Lawful}
 use Rattle.formulas.specs.declared.line.Line.{Line}
@@ -64,7 +64,7 @@ module _ (n made : ℕ) (rows : List (Option Row)) (s : ℕ) (m : Meaning) (row 
     pub same_keeps : report.verdict ≡ Same → AllKept rows → Keeps (with_procedure row p)
     same_keeps e all =
         let k = all s row open_slot.1 in
-        let a : Alike (stored row.baseline) m = alike_through (stored row.baseline) (stored row.force) m (stored_lawful row.force k.force.0) k.force.1 (same_alike e) in
+        let a : Alike (stored row.baseline) m = alike_through (stored row.baseline) (stored row.force) m (sound_lawful row.force k.force.0) k.force.1 (same_alike e) in
         record { base = k.base; force = k.force; pending = (open_slot.4, subst (Alike (stored row.baseline)) (sym open_slot.5) a); claim = tt }
 
   pub pending_row : row_account (Some (with_procedure row p)) ≡ Some (with_pending (filled row) m)

@@ -4,7 +4,7 @@ use Rattle.std.specs.List.{slice_get}
 use Rattle.std.proofs.lemmas.List.FromFn.{length-map-range_with_len}
 use Rattle.std.proofs.lemmas.Option.{slice_get-get_or}
 use Rattle.std.proofs.lemmas.Bool.{ne_eqb, le-ltb, lt-ltb, cases_lt}
-use Rattle.lts.specs.Layout.{from, many, step_at, stored, Sound}
+use Rattle.lts.specs.Layout.{from, many, step_at, stored, Readable}
 use Rattle.lts.specs.Laws.Member.{listed_action, listed_target}
 use Rattle.lts.specs.Laws.Same.{same_meaning}
 use Rattle.lts.specs.declared.laid.Laid.{Laid}
@@ -75,8 +75,8 @@ module _ (t : Tree) (p : Laid 64 63) (h : Drawn t p) where
     placed_step : (s k : ℕ) → s < p.states → k < many p s → Some (step_at p (from p s + k)) ≡ slice_get ((graph t).steps s) k
     placed_step s k l i = step_inside p s l k i ∙ ap (λ xs. slice_get xs k) (same_steps s)
 
-    pub drawn_sound : Sound p
-    drawn_sound =
+    pub drawn_readable : Readable p
+    drawn_readable =
         let n = h.states in
         let law = graph_lawful t small order in
         record {
@@ -92,5 +92,5 @@ module _ (t : Tree) (p : Laid 64 63) (h : Drawn t p) where
 pub told : (t : Term) → stored t.laid ≡ graph (tree_of t)
 told t = drawn_graph (tree_of t) t.laid t.drawn
 
-pub term_sound : (t : Term) → Sound t.laid
-term_sound t = drawn_sound (tree_of t) t.laid t.drawn t.small t.order
+pub term_readable : (t : Term) → Readable t.laid
+term_readable t = drawn_readable (tree_of t) t.laid t.drawn t.small t.order

@@ -54,7 +54,7 @@ impl Listing {
         requires { self.old.laid.states < 64 }
         ensures { Given self.old run self.new }
     {
-        let s = self.laid.states as usize;
+        let s = self.laid.states;
         self.laid.runs[s] = run;
         self.laid.ends[s] = run.count == 0;
         self.laid.states += 1;

@@ -9,7 +9,7 @@ use crate::table::Table;
 use lts::{Most, Source, Stored, System};
 
 impl Table {
-    fn stored(&self) -> Stored<'_, 128, 512>
+    fn stored(&self) -> Stored<'_>
         ensures { result.of.now ≡ self.now.procedure }
     {
         Stored {

@@ -7,13 +7,13 @@ ghost use Rattle.terms.specs.Laws.Lawful.{term_lawful};
 ghost use Rattle.terms.specs.Terms.{tree_of};
 
 use crate::term::Term;
-use lts::{Most, Source, Stored, System};
+use lts::{Flat, Most, Source, System};
 
 impl Term {
-    fn stored(&self) -> Stored<'_, 64, 63>
+    fn stored(&self) -> Flat<'_, 64, 63>
         ensures { result.of.now ≡ self.now.laid }
     {
-        Stored { of: &self.laid }
+        Flat { of: &self.laid }
     }
 }
 

@@ -3,4 +3,4 @@ use Rattle.lts.proofs.copying.bare.Given as goal
 
 abbrev pub invariant-loop-s : goal.invariant-loop-s
 invariant-loop-s g l =
-    (length l.end-items ≡ 128) × ((k : ℕ) → k < l.s → get_or l.end-items k false ≡ (g.S.System.meaning l.source).ends k)
+    (length l.ends ≡ 128) × ((k : ℕ) → k < l.s → get_or l.ends k false ≡ (g.S.System.meaning l.source).ends k)

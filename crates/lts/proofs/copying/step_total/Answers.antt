@@ -1,5 +1,6 @@
 use Rattle.std.proofs.Common.{rules}
-use Rattle.lts.proofs.Counting.{before_more, before_few}
+use Rattle.lts.specs.Laws.Counting.{before_more}
+use Rattle.lts.proofs.Counting.{before_few}
 use Rattle.lts.proofs.copying.step_total.Goals as goal
 
 pub overflow_add-all : goal.overflow_add-all

@@ -1,6 +1,5 @@
-use Rattle.std.proofs.Common.{◌≤◌, sym, subst, add-one, arith}
+use Rattle.std.proofs.Common.{◌≤◌, add-one, arith}
 use Rattle.comparison.specs.Marks.{written}
-use Rattle.comparison.specs.Standing.{Working}
 use Rattle.comparison.proofs.Closing.{opening, closing}
 use Rattle.comparison.proofs.Marking.{kept_refl}
 use Rattle.comparison.proofs.round.Round.refined.Goals as goal
@@ -11,7 +10,7 @@ loop-s-init g c =
     let k = c.args.self.now.k in
     let old = c.args.self.now.before.now in
     let lines = written c.args.script.now in
-    record { working = subst (Working m k 0 old lines) (sym c.new-draft.ensures) (opening m k old lines c.requires); kept = kept_refl lines }
+    record { working = rw c.begin.ensures (opening m k old lines c.args.draft.now.links c.requires.linked c.requires.standing); kept = kept_refl lines }
 
 pub returns-clause-standing : goal.returns-clause-standing
 returns-clause-standing g c =

@@ -1,8 +1,11 @@
-use Rattle.std.proofs.Common.{ap, ◌∙◌}
+use Rattle.std.proofs.Common.{ap, ◌∙◌, arith}
 use Rattle.lts.specs.Meaning.{Meaning}
 use Rattle.lts.specs.Layout.{stored}
 use Rattle.terms.proofs.Asking.{told}
 use Rattle.terms.proofs.term.source.TermSystem.is_end.Goals as goal
 
 pub returns : goal.returns
-returns c = c.is_end.ensures ∙ ap (λ (m : Meaning). m.ends c.args.s) (ap stored c.stored.ensures ∙ told c.args.self.now)
+returns c =
+    let laid = ap stored c.stored.ensures ∙ told c.args.self.now in
+    let here = c.is_end.ensures ∙ ap (λ (m : Meaning). m.ends c.args.s) laid in
+    grind (arith, here)
